@@ -1,0 +1,11 @@
+pub mod Tables
+pub mod SingleFile
+pub mod Events
+pub mod Logs
+pub mod Orders
+pub mod Books
+pub mod Guards
+pub mod Bounds
+pub mod Accounts
+pub mod Promises
+pub mod Histories

@@ -1,0 +1,4 @@
+pub mod Runs
+pub mod Ready
+pub mod Completing
+pub mod Worked
