@@ -52,25 +52,30 @@ fn walk_line<P: Payload>(
     blank: P,
 ) -> Result<Vec<Line>, AllocError> {
     let calls: Calls<P> = read_calls(heap, rest, AFTER_LAYING)?;
+    let mut trays = filled_trays(heap, blank)?;
     let mut table = Table::new();
-    let mut trays = vec![in heap; blank; TRAYS]?;
-    let after = match &calls.after {
-        Some(later) => Some(later.as_slice()),
-        None => None,
-    };
     let run = run_calls(
         heap,
         &mut table,
         trays.as_mut_slice(),
         laying,
         calls.before.as_slice(),
-        after,
+        &calls.after,
     )?;
     let mut lines = lines_of(heap, &run)?;
     if let Some(fault) = calls.fault {
         lines.push(Line::Fault(fault))?;
     }
     Ok(lines)
+}
+
+/// As many trays as any line takes up, all with the same payload.
+fn filled_trays<P: Copy>(heap: Global, blank: P) -> Result<Vec<P>, AllocError> {
+    let mut trays = Vec::new(heap);
+    for _ in 0..TRAYS {
+        trays.push(blank)?;
+    }
+    Ok(trays)
 }
 
 /// One line for each record that was performed.

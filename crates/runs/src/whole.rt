@@ -41,13 +41,13 @@ pub fn run_calls<B: Board, P: Copy>(
     trays: &mut [P],
     laying: Laying,
     before: &[OpenCall<P>],
-    after: Option<&[DrainingCall]>,
+    after: &Option<Vec<DrainingCall>>,
 ) -> Result<Run, AllocError>
-    ensures { λ r. ⌜ Cases r (λ done. Completes (runs (B·Board .words (now (board .entry))) (now (trays .entry)) laying (now (before .entry)) (mapped now (after .entry))) (told-done (done .laid)) (map said (vec-items (done .before))) (said-after (done .after)) (B·Board .words (now (board .exit))) (now (trays .exit)) (core-left (done .crew))) (λ _. (B·Board .words (now (board .exit)) ≡ B·Board .words (now (board .entry))) × (now (trays .exit) ≡ now (trays .entry))) ⌝ }
+    ensures { λ r. ⌜ Cases r (λ done. Completes (runs (B·Board .words (now (board .entry))) (now (trays .entry)) laying (now (before .entry)) (mapped vec-items (now (after .entry)))) (told-done (done .laid)) (map said (vec-items (done .before))) (said-after (done .after)) (B·Board .words (now (board .exit))) (now (trays .exit)) (core-left (done .crew))) (λ _. (B·Board .words (now (board .exit)) ≡ B·Board .words (now (board .entry))) × (now (trays .exit) ≡ now (trays .entry))) ⌝ }
 {
     match after {
         None => run_undrained(heap, board, trays, laying, before),
-        Some(later) => run_drained(heap, board, trays, laying, before, later),
+        Some(later) => run_drained(heap, board, trays, laying, before, later.as_slice()),
     }
 }
 
