@@ -126,7 +126,7 @@ pub impl AnyCrew for Crew as OpenCalls {
     ghost core = { λ c. c .core };
 
     fn is_laid(&self) -> bool {
-        self.core.shape.lanes > 0
+        self.core.is_laid()
     }
 
     fn grant_lane<B: Board, P: Copy>(
@@ -163,7 +163,7 @@ pub impl AnyCrew for DrainingCrew as DrainingCalls {
     ghost core = { λ c. c .core };
 
     fn is_laid(&self) -> bool {
-        self.core.shape.lanes > 0
+        self.core.is_laid()
     }
 
     fn grant_lane<B: Board, P: Copy>(

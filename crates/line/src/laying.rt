@@ -5,7 +5,7 @@ ghost use Prim.Native.Nat.{ℕ, _+_, _*_, _^_, _<_, _≤_};
 ghost use lib.ListN.{length, replicate};
 ghost use lib.Seq.{paste};
 ghost use Rattle.line.specs.Answers.{told-done};
-ghost use Rattle.line.specs.Calls.{Gives, lays, laid-words};
+ghost use Rattle.line.specs.Calls.{Gives, laid, laid-words, lays};
 ghost use Rattle.line.specs.Crew.{resting-crew};
 ghost use Rattle.line.specs.Limits.{Within};
 ghost use Rattle.line.specs.Map.{words-needed};
@@ -70,6 +70,13 @@ fn lay_words<B: Board>(board: &mut B, shape: Shape, start: u64)
 }
 
 impl Core {
+    /// Whether a line has been laid: it has lanes then.
+    pub(crate) fn is_laid(&self) -> bool
+        ensures { λ r. ⌜ r ≡ laid (now (self .entry)) ⌝ }
+    {
+        self.shape.lanes > 0
+    }
+
     /// Lays a line over board and trays.
     pub(crate) fn lay<B: Board, P>(
         &mut self,

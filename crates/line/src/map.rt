@@ -9,7 +9,7 @@ use crate::access::Shape;
 
 impl Shape {
     /// How many words a line of this shape takes up.
-    pub fn words_needed(self) -> usize
+    pub(crate) fn words_needed(self) -> usize
         ensures { λ r. ⌜ r ≡ words-needed self ⌝ }
     {
         let n = usize::from(self.lanes);
@@ -17,7 +17,7 @@ impl Shape {
     }
 
     /// How many trays a line of this shape takes up.
-    pub fn trays_needed(self) -> usize
+    pub(crate) fn trays_needed(self) -> usize
         ensures { λ r. ⌜ r ≡ trays-needed self ⌝ }
     {
         let n = usize::from(self.lanes);
@@ -25,14 +25,14 @@ impl Shape {
     }
 
     /// Whether so many words and so many trays are enough for a line of this shape.
-    pub fn held_by(self, words: usize, trays: usize) -> bool
+    pub(crate) fn held_by(self, words: usize, trays: usize) -> bool
         ensures { λ r. ⌜ r ≡ (leb (words-needed self) words && leb (trays-needed self) trays) ⌝ }
     {
         self.words_needed() <= words && self.trays_needed() <= trays
     }
 
     /// The number of the word at an address.
-    pub fn word(self, address: Address) -> usize
+    pub(crate) fn word(self, address: Address) -> usize
         ensures { λ r. ⌜ r ≡ word-of self address ⌝ }
     {
         let n = usize::from(self.lanes);
@@ -48,7 +48,7 @@ impl Shape {
     }
 
     /// The number of the tray at a place.
-    pub fn tray(self, place: Place) -> usize
+    pub(crate) fn tray(self, place: Place) -> usize
         ensures { λ r. ⌜ r ≡ tray-of self place ⌝ }
     {
         let n = usize::from(self.lanes);

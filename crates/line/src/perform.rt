@@ -7,7 +7,7 @@ use crate::access::Shape;
 use boards::Board;
 
 /// Makes the access on a line of this shape, and answers the word that it read.
-pub fn perform<B: Board, P: Copy>(
+pub(crate) fn perform<B: Board, P: Copy>(
     board: &mut B,
     trays: &mut [P],
     shape: Shape,

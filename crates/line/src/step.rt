@@ -18,7 +18,7 @@ use boards::STAMP_LIMIT;
 
 impl Lane {
     /// The lane of a row, if its cells and tail are within their limits.
-    pub fn from_row(row: LaneRow) -> Option<Lane>
+    pub(crate) fn from_row(row: LaneRow) -> Option<Lane>
         ensures { λ r. ⌜ BySome r (sound row ≡ false) (λ lane. (sound row ≡ true) × (row-of-lane lane ≡ row)) ⌝ }
     {
         if row.cells >= 2 && row.cells <= 64 && row.tail < row.cells {
@@ -34,7 +34,7 @@ impl Lane {
     }
 
     /// The row that goes back into the crew's array.
-    pub fn row(self) -> LaneRow
+    pub(crate) fn row(self) -> LaneRow
         ensures { λ r. ⌜ r ≡ row-of-lane self ⌝ }
     {
         LaneRow {
@@ -53,7 +53,7 @@ impl Lane {
     }
 
     /// The one access of this lane, which has the number `lane`, at its stage.
-    pub fn access(&self, lane: u8) -> Access
+    pub(crate) fn access(&self, lane: u8) -> Access
         ensures { λ r. ⌜ r ≡ lane-access lane (row-of-lane (now (self .entry))) (now (self .entry) .stage) ⌝ }
     {
         match self.stage {
@@ -150,7 +150,7 @@ impl Lane {
     }
 
     /// Steps the lane by a grant that read `word`, and answers what the grant answers.
-    pub fn step(&mut self, word: u64) -> LaneAnswer
+    pub(crate) fn step(&mut self, word: u64) -> LaneAnswer
         ensures answer { λ r. ⌜ r ≡ lane-answer (row-of-lane (now (self .entry))) word ⌝ }
         ensures after { λ _. ⌜ row-of-lane (now (self .exit)) ≡ row-after (row-of-lane (now (self .entry))) word ⌝ }
     {

@@ -56,7 +56,7 @@ fn note_scripts(rt: LibcRuntime) -> Result<(), Fail> {
         &[
             (
                 posts,
-                "laid;begun;L0 on;L0 posted 0 9;begun;L0 refused 8 1;refused 5;fault 15 at 80;",
+                "laid;begun;L0 on;L0 posted 0 9;begun;L0 refused 8 1;refused 5;fault 15 at 72;",
             ),
             (refused, "refused 1;refused 4;fault 17 at 20;"),
         ],

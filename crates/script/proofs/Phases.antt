@@ -49,14 +49,15 @@ module _ {P : Type 0} (brought : Record → Result P Fault) where
   read-open (Faulty f) other cs at bs h = h
   read-open (Drained behind) other cs at bs h = absurd (other behind refl)
 
-  pub without-drain : (stop : Stop) (f : Option FaultAt) (cs : List (OpenCall P)) (at : ℕ) (bs : List ℕ) → at + length bs ≤ 60000 → ((behind : ℕ) → stop ≡ Drained behind → ⊥) → f ≡ stop-fault stop → Calls-up-to (open-item brought) (Stops (open-item brought) stop) cs at bs → Calls-from brought at bs cs None f
-  without-drain stop f cs at bs le other e h = short cs None f at bs le (rw e (read-open stop other cs at bs h))
+  pub without-drain : (stop : Stop) (f : Option FaultAt) (cs cs′ : List (OpenCall P)) (at : ℕ) (bs : List ℕ) → at + length bs ≤ 60000 → cs′ ≡ cs → ((behind : ℕ) → stop ≡ Drained behind → ⊥) → f ≡ stop-fault stop → Calls-up-to (open-item brought) (Stops (open-item brought) stop) cs at bs → Calls-from brought at bs cs′ None f
+  without-drain stop f cs cs′ at bs le same other e h =
+      short cs′ None f at bs le (rw (same, e) (read-open stop other cs at bs h))
 
   -- it ends at the drain, and the part behind the drain follows
-  pub with-drain : (stop dstop : Stop) (behind : ℕ) (f : Option FaultAt) (cs : List (OpenCall P)) (ds : List DrainingCall) (at : ℕ) (bs : List ℕ) → at + length bs ≤ 60000 → stop ≡ Drained behind → f ≡ stop-fault dstop → Calls-up-to (open-item brought) (Stops (open-item brought) stop) cs at bs → Calls-up-to draining-item (Stops draining-item dstop) ds behind (take (length bs - (behind - at)) (drop (behind - at) bs)) → Calls-from brought at bs cs (Some ds) f
-  with-drain stop dstop behind f cs ds at bs le e ef h k =
+  pub with-drain : (stop dstop : Stop) (behind : ℕ) (f : Option FaultAt) (cs cs′ : List (OpenCall P)) (ds : List DrainingCall) (at : ℕ) (bs : List ℕ) → at + length bs ≤ 60000 → cs′ ≡ cs → stop ≡ Drained behind → f ≡ stop-fault dstop → Calls-up-to (open-item brought) (Stops (open-item brought) stop) cs at bs → Calls-up-to draining-item (Stops draining-item dstop) ds behind (take (length bs - (behind - at)) (drop (behind - at) bs)) → Calls-from brought at bs cs′ (Some ds) f
+  with-drain stop dstop behind f cs cs′ ds at bs le same e ef h k =
       let rest : Reads-draining ds f behind (drop (behind - at) bs) = rw ef (read-draining dstop ds behind _ (rw take-rest at k)) in
-      short cs (Some ds) f at bs le
-      (retold (open-item brought) (Stops (open-item brought) (Drained behind)) (Ends-open brought (Some ds) f) at bs
+      short cs′ (Some ds) f at bs le
+      (rw same (retold (open-item brought) (Stops (open-item brought) (Drained behind)) (Ends-open brought (Some ds) f) at bs
       (λ a b p s. let q = passed (open-item brought) at bs a b Drain (s .0) p in (s .0, rw (q .2, ← s .1) rest))
-      cs at bs (all-of (open-item brought) at bs) (rw e at h))
+      cs at bs (all-of (open-item brought) at bs) (rw e at h)))

@@ -10,9 +10,10 @@ use Rattle.std.specs.declared.result.Result.the-variants.{Ok, Err}
 use Rattle.script.specs.declared.call.Item.{Item}
 use Rattle.script.specs.declared.call.Item.the-variants.{Call, Drain}
 use Rattle.script.specs.declared.fault.Fault.{Fault}
+use Rattle.script.specs.declared.fault.FaultAt.{FaultAt}
 use Rattle.script.specs.declared.record.Record.{Record}
 use Rattle.script.specs.declared.script.Stop.{Stop}
-use Rattle.script.specs.declared.script.Stop.the-variants.{Drained}
+use Rattle.script.specs.declared.script.Stop.the-variants.{Drained, Faulty}
 use Rattle.script.specs.Records.{record-at, rest-at, two}
 use Rattle.script.specs.Scripts.{Calls-up-to, Stops, next-item, said}
 use Rattle.script.proofs.InBytes.{record-within}
@@ -90,6 +91,11 @@ module _ {C : Type 0} (item-of : Record → Result (Item C) Fault) where
       let S : ℕ → List ℕ → Type 0 = Left left′ in
       let within : length left′ ≤ length xs = omega arith in
       (p .0, (within, rw more (joined-calls S items (c ∷ []) from xs (stops (Calls-up-to item-of S (c ∷ [])) items from xs left inv (called, sym rest)))))
+
+  -- the next record is faulty
+  pub faulted : (items : List C) (f : FaultAt) (from : ℕ) (xs left : List ℕ) → 0 < length left → next-item item-of left ≡ Err (f .fault) → f .at ≡ place-of from xs left → Read-so-far items from xs left → Calls-up-to item-of (Stops item-of (Faulty f)) items from xs
+  faulted items f from xs left more refused place inv =
+      stops (Stops item-of (Faulty f)) items from xs left inv (more, refused, place)
 
   -- the drain is read
   pub drained : (items : List C) (from : ℕ) (xs left left′ : List ℕ) → next-item item-of left ≡ Ok Drain → left′ ≡ rest-at left → Read-so-far items from xs left → (length left′ ≤ length xs) × Calls-up-to item-of (Stops item-of (Drained (place-of from xs left′))) items from xs

@@ -60,7 +60,7 @@ module _ {X Z : Type 0} where
   after-items (Some v) = Some (vec-items v)
 
 -- Reading by a rule `item-of`, which says what a record of one part of a script says.
--- `Stop` speaks of a place of the script and the bytes from there on.
+-- `Then` speaks of a place of the script and the bytes from there on.
 module _ {C : Type 0} (item-of : Record → Result (Item C) Fault) where
   abbrev pub said : Result Record Fault → Result (Item C) Fault
   said (Ok r) = item-of r
@@ -70,10 +70,10 @@ module _ {C : Type 0} (item-of : Record → Result (Item C) Fault) where
   abbrev pub next-item : List ℕ → Result (Item C) Fault
   next-item bs = said (record-at bs)
 
-  -- the bytes, which stand at place `at`, begin with the records of these calls; `Stop` holds behind them
+  -- the bytes, which stand at place `at`, begin with the records of these calls; `Then` holds behind them
   abbrev pub Calls-up-to : (ℕ → List ℕ → Type 0) → List C → ℕ → List ℕ → Type 0
-  Calls-up-to Stop [] at bs = Stop at bs
-  Calls-up-to Stop (c ∷ cs) at bs = (next-item bs ≡ Ok (Call c)) × Calls-up-to Stop cs (at + two bs 0) (rest-at bs)
+  Calls-up-to Then [] at bs = Then at bs
+  Calls-up-to Then (c ∷ cs) at bs = (next-item bs ≡ Ok (Call c)) × Calls-up-to Then cs (at + two bs 0) (rest-at bs)
 
   -- the script ends here: after its last byte, or by this fault
   abbrev pub Ends : Option FaultAt → ℕ → List ℕ → Type 0

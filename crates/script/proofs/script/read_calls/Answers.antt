@@ -1,6 +1,7 @@
 use native.Mathlib.Omega.{arith}
 use borrow.Author.Needs.{needs}
 use lib.ListN.{length-drop}
+use Rattle.std.specs.Of.Vec.{vec-items}
 use Rattle.std.proofs.shelf.Lists.{take-rest}
 use Rattle.script.specs.Calls.{open-item}
 use Rattle.script.proofs.Readings.{drain-within}
@@ -28,8 +29,8 @@ read-part-requires-in-Drained g c κs =
 
 pub returns-in-Drained : need.returns-in-Drained
 returns-in-Drained g c =
-    with-drain (g .P·Payload .brought) (c .in-Continue-open .open .stop) (c .in-Continue-draining .draining .stop) (c .in-Drained .behind) (c .fault .result) _ _ (c .args .at) (c .args .rest .now) (omega arith) (c .in-Drained .is) (c .fault .ensures) (c .in-Continue-open .ensures tt) (c .in-Continue-draining .ensures tt)
+    with-drain (g .P·Payload .brought) (c .in-Continue-open .open .stop) (c .in-Continue-draining .draining .stop) (c .in-Drained .behind) (c .fault .result) (vec-items (c .in-Continue-open .open .calls)) _ _ (c .args .at) (c .args .rest .now) (omega arith) (search needs) (c .in-Drained .is) (c .fault .ensures) (c .in-Continue-open .ensures tt) (c .in-Continue-draining .ensures tt)
 
 pub returns : need.returns
 returns g c =
-    without-drain (g .P·Payload .brought) (c .in-Continue-open .open .stop) (c .fault-2 .result) _ (c .args .at) (c .args .rest .now) (omega arith) (c .in-rest .not-Drained) (c .fault-2 .ensures) (c .in-Continue-open .ensures tt)
+    without-drain (g .P·Payload .brought) (c .in-Continue-open .open .stop) (c .fault-2 .result) (vec-items (c .in-Continue-open .open .calls)) _ (c .args .at) (c .args .rest .now) (omega arith) (search needs) (c .in-rest .not-Drained) (c .fault-2 .ensures) (c .in-Continue-open .ensures tt)

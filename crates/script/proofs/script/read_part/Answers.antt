@@ -1,15 +1,16 @@
 use mathlib.Core.Path.{refl, ap, _∙_}
 use mathlib.Core.List.{[], _∷_}
 use Prim.Native.Nat.{_<_, _≤_}
+use native.Mathlib.Omega.{arith}
 use borrow.Author.Needs.{needs}
 use lib.ListN.{length}
 use Rattle.std.specs.Of.Vec.{vec-items}
 use Rattle.std.specs.declared.result.Result.the-variants.{Ok}
 use Rattle.std.proofs.shelf.Lists.{nil-from-length}
 use Rattle.std.proofs.shelf.Parts.{pushed}
-use Rattle.script.specs.declared.script.Stop.the-variants.{AtEnd, Drained, Faulty}
+use Rattle.script.specs.declared.script.Stop.the-variants.{AtEnd, Drained}
 use Rattle.script.specs.Scripts.{Calls-up-to, Stops}
-use Rattle.script.proofs.Readings.{Read-so-far, drained, one-more, place-of, stops}
+use Rattle.script.proofs.Readings.{Read-so-far, drained, faulted, one-more, place-of, stops}
 use Rattle.script.proofs.script.read_part.Given as given
 use Rattle.script.proofs.script.read_part.Needs as need
 
@@ -39,8 +40,7 @@ returns-in-Drain g c = drain g c .1
 
 pub returns-in-Err : need.returns-in-Err
 returns-in-Err g c =
-    stops (g .C·Call .item) (Stops (g .C·Call .item) (Faulty (record { fault = c .in-Err .fault; at = place-of (g .C·Call .item) (c .args .at) (c .args .rest .now) (c .loop-unread .unread .now) })))
-    (vec-items (c .loop-unread .calls)) (c .args .at) (c .args .rest .now) (c .loop-unread .unread .now) (c .loop-unread .inv) (search needs, c .in-Err .ensures tt, refl)
+    faulted (g .C·Call .item) (vec-items (c .loop-unread .calls)) (record { fault = c .in-Err .fault; at = _ }) (c .args .at) (c .args .rest .now) (c .loop-unread .unread .now) (search needs) (c .in-Err .ensures tt) (omega arith) (c .loop-unread .inv)
 
 pub returns : need.returns
 returns g c =
