@@ -6,3 +6,4 @@ pub mod Endings
 pub mod Telling
 pub mod Places
 pub mod CollectEndings
+pub mod Done

@@ -10,7 +10,7 @@ use Rattle.line.specs.declared.answer.CollectorAnswer.the-variants.{On as Coll
 use Rattle.line.specs.declared.answer.LaneAnswer.{LaneAnswer}
 use Rattle.line.specs.declared.answer.LaneAnswer.the-variants.{On, Posted, Full, UsedUp}
 use Rattle.line.specs.declared.answer.Refusal.{Refusal}
-use Rattle.line.specs.declared.answer.Refusal.the-variants.{BadShape, BadStart, TooShort, NeverLaid, NoLane, PostUnderWay, NoPost, CollectUnsettled, NoCollect, CollectNotEnded}
+use Rattle.line.specs.declared.answer.Refusal.the-variants.{BadShape, BadStart, TooShort, NeverLaid, NoLane, PostUnderWay, NoPost, CollectUnsettled, NoCollect, CollectNotEnded, NotDone}
 use Rattle.line.specs.declared.collector.Collected.the-variants.{Empty, Delivered}
 use Rattle.line.specs.Answers.{Told, refusal-number, told-by, told-collector, told-lane}
 use Rattle.line.specs.Laws.{Answers-are-told-apart}
@@ -19,7 +19,7 @@ use Rattle.line.specs.Laws.{Answers-are-told-apart}
 module _ {X : Type 0} where
   abbrev numbered : Result X Refusal → Result X Refusal → Result X Refusal → ℕ → Result X Refusal
   numbered accepted eight nine n =
-      getD (accepted ∷ Err BadShape ∷ Err BadStart ∷ Err TooShort ∷ Err NeverLaid ∷ Err NoLane ∷ Err PostUnderWay ∷ Err NoPost ∷ eight ∷ nine ∷ Err CollectUnsettled ∷ Err NoCollect ∷ []) n (Err CollectNotEnded)
+      getD (accepted ∷ Err BadShape ∷ Err BadStart ∷ Err TooShort ∷ Err NeverLaid ∷ Err NoLane ∷ Err PostUnderWay ∷ Err NoPost ∷ eight ∷ nine ∷ Err CollectUnsettled ∷ Err NoCollect ∷ Err CollectNotEnded ∷ []) n (Err NotDone)
 
   refusal-again : (a b c : Result X Refusal) (e : Refusal) → numbered a b c (refusal-number e) ≡ Err e
   refusal-again a b c BadShape = refl
@@ -32,6 +32,7 @@ module _ {X : Type 0} where
   refusal-again a b c CollectUnsettled = refl
   refusal-again a b c NoCollect = refl
   refusal-again a b c CollectNotEnded = refl
+  refusal-again a b c NotDone = refl
 
   -- what is found again from its telling is told apart
   apart : (f : X → Told) (back : Told → Result X Refusal) → ((a : Result X Refusal) → back (told-by f a) ≡ a) → (a b : Result X Refusal) → told-by f a ≡ told-by f b → a ≡ b

@@ -8,10 +8,11 @@ use Prim.Native.Nat.{ℕ}
 use Rattle.std.specs.declared.result.Result.{Result}
 use Rattle.std.specs.declared.result.Result.the-variants.{Ok, Err}
 use Rattle.line.specs.declared.answer.Refusal.{Refusal}
-use Rattle.line.specs.declared.answer.Refusal.the-variants.{BadShape, BadStart, TooShort, NeverLaid, NoLane, PostUnderWay, NoPost, CollectUnsettled, NoCollect, CollectNotEnded}
+use Rattle.line.specs.declared.answer.Refusal.the-variants.{BadShape, BadStart, TooShort, NeverLaid, NoLane, PostUnderWay, NoPost, CollectUnsettled, NoCollect, CollectNotEnded, NotDone}
 use Rattle.line.specs.declared.answer.CollectorAnswer.{CollectorAnswer}
 use Rattle.line.specs.declared.answer.CollectorAnswer.the-variants.{On as CollectGoesOn, Ended as CollectEnded}
 use Rattle.line.specs.declared.answer.LaneAnswer.{LaneAnswer}
+use Rattle.line.specs.declared.answer.Totals.{Totals}
 use Rattle.line.specs.declared.answer.LaneAnswer.the-variants.{On, Posted, Full, UsedUp}
 use Rattle.line.specs.declared.collector.Collected.{Collected}
 use Rattle.line.specs.declared.collector.Collected.the-variants.{Empty, Delivered}
@@ -35,6 +36,7 @@ refusal-number NoPost = 7
 refusal-number CollectUnsettled = 10
 refusal-number NoCollect = 11
 refusal-number CollectNotEnded = 12
+refusal-number NotDone = 13
 
 abbrev pub lane-told : LaneAnswer → Told
 lane-told On = told 0 []
@@ -73,3 +75,7 @@ told-settled (Err back) = told (refusal-number (back .refusal)) []
 -- a fill tells its number
 abbrev pub told-fill : Result ℕ Refusal → Told
 told-fill = told-by (λ n. told 0 (n ∷ []))
+
+-- a report tells both totals: posted, then delivered
+abbrev pub told-totals : Result Totals Refusal → Told
+told-totals = told-by (λ totals. told 0 (totals .posted ∷ totals .delivered ∷ []))

@@ -6,8 +6,8 @@
 use mathlib.Core.Path.{_≡_}
 use mathlib.Core.Bool.{Bool, true, false, cond, _&&_, not}
 use mathlib.Core.List.{List, [], _∷_, _++_}
-use Prim.Native.Nat.{ℕ, _+_, _*_}
-use lib.Dec.{ltb, leb}
+use Prim.Native.Nat.{ℕ, zero, suc, _+_, _*_}
+use lib.Dec.{eqb, ltb, leb}
 use lib.ListN.{length, set, drop, replicate}
 use Rattle.boards.specs.Words.{empty-word, stamp-limit}
 use Rattle.line.specs.declared.access.Access.{Access}
@@ -85,6 +85,20 @@ settles c = tested (refuse-crew c) ((laid c, 4) ∷ []) (settles-at c (c .collec
 -- The fill of a lane; nothing changes.
 abbrev pub fills : Core → ℕ → Told
 fills c lane = tested (λ number. told number []) ((laid c, 4) ∷ (is-lane c lane, 5) ∷ []) (told 0 (fill-of c lane ∷ []))
+
+-- Reporting: the two totals, once nothing is under way, the last collect is settled, and every lane's ring is empty.
+abbrev pub all-below : (ℕ → Bool) → ℕ → Bool
+all-below test zero = true
+all-below test (suc n) = test n && all-below test n
+
+abbrev pub lane-done : Core → ℕ → Bool
+lane-done c lane = not (busy (row-of c lane .stage)) && eqb (fill-of c lane) 0
+
+abbrev pub all-done : Core → Bool
+all-done c = not (begun (c .collector .stage)) && all-below (lane-done c) (c .shape .lanes)
+
+abbrev pub reports : Core → Told
+reports c = tested (λ number. told number []) ((laid c, 4) ∷ (all-done c, 13) ∷ []) (told 0 (c .posted ∷ c .delivered ∷ []))
 
 -- Draining: the crew takes no more posts; all else stays.
 abbrev pub drained : Core → Core

@@ -26,6 +26,8 @@ pub enum Refusal {
     NoCollect,
     /// The collect has not ended yet.
     CollectNotEnded,
+    /// A post is under way, a collect is under way or unsettled, or a frame lies in a lane.
+    NotDone,
 }
 
 /// What a lane's grant answers.
@@ -48,4 +50,11 @@ pub enum CollectorAnswer {
     On,
     /// The collect ended.
     Ended(Collected),
+}
+
+/// How many posts have ended as posted, and how many collects as delivered, since the laying.
+#[derive(Clone, Copy, PartialEq, Eq, Debug)]
+pub struct Totals {
+    pub posted: u64,
+    pub delivered: u64,
 }

@@ -2,14 +2,15 @@
 ghost use mathlib.Core.Path.{_≡_};
 ghost use mathlib.Core.List.{List};
 ghost use Prim.Native.Nat.{ℕ};
-ghost use Rattle.line.specs.Answers.{told-collector, told-done, told-fill, told-lane, told-settled};
-ghost use Rattle.line.specs.Calls.{CrewGives, Gives, begins-collect, begins-post, drained, fills, grants-collector, grants-lane, laid, lays, settles};
+ghost use Rattle.line.specs.Answers.{told-collector, told-done, told-fill, told-lane, told-settled, told-totals};
+ghost use Rattle.line.specs.Calls.{CrewGives, Gives, begins-collect, begins-post, drained, fills, grants-collector, grants-lane, laid, lays, reports, settles};
 ghost use Rattle.line.specs.Crew.{never-laid};
 ghost use Rattle.line.specs.declared.crew.Core.{Core as Kept-by-crew};
 use crate::access::Shape;
 use crate::answer::CollectorAnswer;
 use crate::answer::LaneAnswer;
 use crate::answer::Refusal;
+use crate::answer::Totals;
 use crate::collector::Collected;
 use crate::crew::Core;
 use crate::crew::Crew;
@@ -67,6 +68,18 @@ impl Crew {
         let mut core = self.core;
         core.draining = true;
         DrainingCrew { core }
+    }
+}
+
+impl DrainingCrew {
+    /// Both totals since the laying: posts that ended as posted, and collects that ended as delivered.
+    ///
+    /// Refuses, in this order, a crew never laid, and one with a post under way, a collect under way or unsettled, or a
+    /// frame in a lane.
+    pub fn report(&self) -> Result<Totals, Refusal>
+        ensures { λ r. ⌜ told-totals r ≡ reports (now (self .entry) .core) ⌝ }
+    {
+        self.core.report()
     }
 }
 

@@ -169,7 +169,7 @@ impl Core {
 }
 
 /// How many cells lie from `head` on and before `tail`, round a ring of `cells`.
-fn cells_between(head: u8, tail: u8, cells: u8) -> usize
+pub(crate) fn cells_between(head: u8, tail: u8, cells: u8) -> usize
     requires { ⌜ 0 < cells ⌝ }
     ensures { λ r. ⌜ r ≡ (tail + cells - head) % cells ⌝ }
 {

@@ -14,4 +14,5 @@ pub mod numbers;
 pub mod perform;
 pub mod posting;
 pub mod receipt;
+pub mod reporting;
 pub mod step;

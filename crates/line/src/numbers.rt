@@ -19,6 +19,7 @@ impl Refusal {
             Refusal::CollectUnsettled => 10,
             Refusal::NoCollect => 11,
             Refusal::CollectNotEnded => 12,
+            Refusal::NotDone => 13,
         }
     }
 }

@@ -2,6 +2,7 @@
 use line::answer::CollectorAnswer;
 use line::answer::LaneAnswer;
 use line::answer::Refusal;
+use line::answer::Totals;
 use line::collector::Collected;
 use runs::answers::Answer;
 use script::fault::FaultAt;
@@ -27,6 +28,7 @@ pub impl fmt::Display for Line as LineDisplay {
             Line::Answered(Answer::BeginCollect(result)) => show_done("begun", result, f),
             Line::Answered(Answer::GrantCollector(result)) => show_collector(result, f),
             Line::Answered(Answer::Settle(result)) => show_settled(result, f),
+            Line::Answered(Answer::Report(result)) => show_report(result, f),
             Line::Draining => write!(f, "draining"),
             Line::Fault(fault) => write!(f, "{fault}"),
         }
@@ -92,6 +94,17 @@ fn show_settled<W: fmt::Write>(
 ) -> fmt::Result {
     match result {
         Ok(_) => write!(f, "settled"),
+        Err(refusal) => show_refused(refusal, f),
+    }
+}
+
+/// Both totals: posted, then delivered.
+fn show_report<W: fmt::Write>(
+    result: Result<Totals, Refusal>,
+    f: &mut fmt::Formatter<W>,
+) -> fmt::Result {
+    match result {
+        Ok(Totals { posted, delivered }) => write!(f, "report {posted} {delivered}"),
         Err(refusal) => show_refused(refusal, f),
     }
 }

@@ -26,7 +26,7 @@ fn check_all(heap: Global, table: &[(&[u8], &str)]) -> Result<(), Fail> {
 #[test]
 fn ticket_scripts(rt: LibcRuntime) -> Result<(), Fail> {
     let whole: &[u8] =
-        b"\x10\0\x01\0\x01\0\x02\0\0\0\0\0\0\0\0\0\x12\0\x03\0\0\0\x07\0\0\0\x08\0\0\0\x09\0\0\0\x08\0\x05\0\0\0\x0d\0\x04\0\x06\0\x06\0\x07\0\x0b\0\x04\0\x08\0\x04\0\x09\0";
+        b"\x10\0\x01\0\x01\0\x02\0\0\0\0\0\0\0\0\0\x12\0\x03\0\0\0\x07\0\0\0\x08\0\0\0\x09\0\0\0\x08\0\x05\0\0\0\x0d\0\x04\0\x06\0\x06\0\x07\0\x0b\0\x04\0\x08\0\x04\0\x09\0\x04\0\x0a\0";
     let open_collect: &[u8] =
         b"\x10\0\x01\0\x01\0\x02\0\0\0\0\0\0\0\0\0\x04\0\x06\0\x04\0\x06\0\x04\0\x08\0\x07\0\x06\0";
     check_all(
@@ -34,7 +34,7 @@ fn ticket_scripts(rt: LibcRuntime) -> Result<(), Fail> {
         &[
             (
                 whole,
-                "laid;begun;L0 posted 0 9;begun;C delivered 0 0 6;settled;draining;",
+                "laid;begun;L0 posted 0 9;begun;C delivered 0 0 6;settled;draining;report 1 1;",
             ),
             (
                 open_collect,
@@ -56,7 +56,7 @@ fn note_scripts(rt: LibcRuntime) -> Result<(), Fail> {
         &[
             (
                 posts,
-                "laid;begun;L0 on;L0 posted 0 9;begun;L0 refused 8 1;refused 5;fault 15 at 72;",
+                "laid;begun;L0 on;L0 posted 0 9;begun;L0 refused 8 1;refused 5;fault 16 at 72;",
             ),
             (refused, "refused 1;refused 4;fault 17 at 20;"),
         ],

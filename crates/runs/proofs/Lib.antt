@@ -6,3 +6,5 @@ pub mod Performing
 pub mod Onward
 pub mod Endings
 pub mod Completion
+pub mod Ones
+pub mod Reaching

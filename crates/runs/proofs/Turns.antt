@@ -10,7 +10,7 @@ use Rattle.line.specs.Answers.{collected-told, refusal-number}
 use Rattle.line.specs.Calls.{CrewOutcome, begin-collect-tests, begins-collect, laid, refuse-crew, settles, settles-at, tested}
 use Rattle.line.specs.Collect.{begun}
 use Rattle.line.specs.declared.answer.Refusal.{Refusal}
-use Rattle.line.specs.declared.answer.Refusal.the-variants.{BadShape, BadStart, TooShort, NeverLaid, NoLane, PostUnderWay, NoPost, CollectUnsettled, NoCollect, CollectNotEnded}
+use Rattle.line.specs.declared.answer.Refusal.the-variants.{BadShape, BadStart, TooShort, NeverLaid, NoLane, PostUnderWay, NoPost, CollectUnsettled, NoCollect, CollectNotEnded, NotDone}
 use Rattle.line.specs.declared.collector.Collected.{Collected}
 use Rattle.line.specs.declared.collector.Collected.the-variants.{Empty, Delivered}
 use Rattle.line.specs.declared.collector.CollectStage.{CollectStage}
@@ -29,6 +29,7 @@ refused-above-0 NoPost h = omega arith
 refused-above-0 CollectUnsettled h = omega arith
 refused-above-0 NoCollect h = omega arith
 refused-above-0 CollectNotEnded h = omega arith
+refused-above-0 NotDone h = omega arith
 
 -- how a collect ended is told with the number 0
 pub collected-0 : (how : Collected) → collected-told how .number ≡ 0

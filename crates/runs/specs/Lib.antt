@@ -2,3 +2,4 @@ pub mod Runs
 pub mod Ready
 pub mod Completing
 pub mod Worked
+pub mod AtHand

@@ -12,16 +12,16 @@ use Rattle.std.specs.declared.option.Option.{Option}
 use Rattle.std.specs.declared.option.Option.the-variants.{Some, None}
 use Rattle.std.specs.declared.result.Result.{Result}
 use Rattle.std.specs.declared.result.Result.the-variants.{Ok, Err}
-use Rattle.line.specs.Answers.{Told, told, told-by, told-collector, told-done, told-lane, collected-told}
-use Rattle.line.specs.Calls.{CrewOutcome, Outcome, begins-collect, begins-post, drained, grants-collector, grants-lane, lays, settles}
+use Rattle.line.specs.Answers.{Told, told, told-by, told-collector, told-done, told-lane, told-totals, collected-told}
+use Rattle.line.specs.Calls.{CrewOutcome, Outcome, begins-collect, begins-post, drained, grants-collector, grants-lane, lays, reports, settles}
 use Rattle.line.specs.Crew.{never-laid}
 use Rattle.line.specs.declared.crew.Core.{Core}
 use Rattle.runs.specs.declared.answers.Answer.{Answer}
-use Rattle.runs.specs.declared.answers.Answer.the-variants.{BeginPost as PostBegun, GrantLane as LaneGranted, BeginCollect as CollectBegun, GrantCollector as CollectorGranted, Settle as Settled}
+use Rattle.runs.specs.declared.answers.Answer.the-variants.{BeginPost as PostBegun, GrantLane as LaneGranted, BeginCollect as CollectBegun, GrantCollector as CollectorGranted, Settle as Settled, Report as Reported}
 use Rattle.runs.specs.declared.calls.CrewCall.{CrewCall}
 use Rattle.runs.specs.declared.calls.CrewCall.the-variants.{GrantLane, BeginCollect, GrantCollector, Settle}
 use Rattle.runs.specs.declared.calls.DrainingCall.{DrainingCall}
-use Rattle.runs.specs.declared.calls.DrainingCall.the-variants.{Any as AnyDraining}
+use Rattle.runs.specs.declared.calls.DrainingCall.the-variants.{Any as AnyDraining, Report}
 use Rattle.runs.specs.declared.calls.Laying.{Laying}
 use Rattle.runs.specs.declared.calls.OpenCall.{OpenCall}
 use Rattle.runs.specs.declared.calls.OpenCall.the-variants.{BeginPost, Any}
@@ -32,6 +32,7 @@ pub data Said : Type 0 where
   began-collect : Told → Said
   granted-collector : Told → Said
   settled : Told → Said
+  reported : Told → Said
 
 abbrev pub said : Answer → Said
 said (PostBegun result) = began-post (told-done result)
@@ -39,6 +40,7 @@ said (LaneGranted lane result) = granted-lane lane (told-lane result)
 said (CollectBegun result) = began-collect (told-done result)
 said (CollectorGranted result) = granted-collector (told-collector result)
 said (Settled result) = settled (told-by collected-told result)
+said (Reported result) = reported (told-totals result)
 
 -- the answer on: number 0 and no values
 abbrev pub no-values : List ℕ → Bool
@@ -72,6 +74,7 @@ module _ {P : Type 0} where
 
   abbrev pub draining-performed : DrainingCall → List ℕ → List P → Core → Outcome P
   draining-performed (AnyDraining call) ws ps c = any-performed call ws ps c
+  draining-performed Report ws ps c = record { answer = reports c; words = ws; trays = ps; crew = c }
 
 abbrev pub any-says : CrewCall → Told → Said
 any-says (GrantLane lane times) t = granted-lane lane t
@@ -85,6 +88,7 @@ open-says (Any call) t = any-says call t
 
 abbrev pub draining-says : DrainingCall → Told → Said
 draining-says (AnyDraining call) t = any-says call t
+draining-says Report t = reported t
 
 -- a call did what the outcome says
 pub record Answers {P : Type 0} (o : Outcome P) (sayer : Told → Said) (a : Said) (ws : List ℕ) (ps : List P) (c : Core) : Type 0 where

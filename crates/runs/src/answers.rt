@@ -2,6 +2,7 @@
 use line::answer::CollectorAnswer;
 use line::answer::LaneAnswer;
 use line::answer::Refusal;
+use line::answer::Totals;
 use line::collector::Collected;
 
 /// What one call of a list answered.
@@ -15,4 +16,5 @@ pub enum Answer {
     BeginCollect(Result<(), Refusal>),
     GrantCollector(Result<CollectorAnswer, Refusal>),
     Settle(Result<Collected, Refusal>),
+    Report(Result<Totals, Refusal>),
 }

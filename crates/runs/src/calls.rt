@@ -36,4 +36,6 @@ pub enum OpenCall<P> {
 #[derive(Clone, Copy)]
 pub enum DrainingCall {
     Any(CrewCall),
+    /// Report both totals.
+    Report,
 }

@@ -133,6 +133,7 @@ fn perform_draining<B: Board, P: Copy>(
 {
     match call {
         DrainingCall::Any(call) => perform_any(crew, board, trays, held, call),
+        DrainingCall::Report => (Answer::Report(crew.report()), held),
     }
 }
 

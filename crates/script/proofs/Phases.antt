@@ -4,14 +4,18 @@ use mathlib.Core.List.{List}
 use Prim.Native.Nat.{ℕ, _+_, _-_, _≤_}
 use native.Mathlib.Omega.{arith}
 use lib.ListN.{length, take, drop}
+use lib.Dec.{eqb}
 use Rattle.runs.specs.declared.calls.DrainingCall.{DrainingCall}
+use Rattle.runs.specs.declared.calls.DrainingCall.the-variants as draining
 use Rattle.runs.specs.declared.calls.OpenCall.{OpenCall}
 use Rattle.std.specs.declared.option.Option.{Option}
 use Rattle.std.specs.declared.option.Option.the-variants.{Some, None}
 use Rattle.std.specs.declared.result.Result.{Result}
 use Rattle.std.specs.declared.result.Result.the-variants.{Ok, Err}
 use Rattle.std.proofs.shelf.Lists.{take-rest}
-use Rattle.script.specs.declared.call.Item.the-variants.{Drain}
+use Rattle.std.proofs.shelf.Tests.{cond-both}
+use Rattle.script.specs.declared.call.Item.{Item}
+use Rattle.script.specs.declared.call.Item.the-variants.{Call, Drain}
 use Rattle.script.specs.declared.fault.Fault.{Fault}
 use Rattle.script.specs.declared.fault.FaultAt.{FaultAt}
 use Rattle.script.specs.declared.record.Record.{Record}
@@ -27,9 +31,15 @@ no-drain : {X C : Type 0} (call : X → C) (x : Result X Fault) → calling call
 no-drain call (Ok x) h = let z : _≡_ {A = ℕ} 0 1 = cc in omega arith
 no-drain call (Err f) h = let z : _≡_ {A = ℕ} 0 1 = cc in omega arith
 
+-- a report does not say so either
+no-call : (c : DrainingCall) → _≡_ {A = Result (Item DrainingCall) Fault} (Ok (Call c)) (Ok Drain) → ⊥
+no-call c h = let z : _≡_ {A = ℕ} 0 1 = cc in omega arith
+
 no-second : (x : Result Record Fault) → said draining-item x ≡ Ok Drain → ⊥
-no-second (Ok r) h = no-drain _ (crew-call r) h
-no-second (Err f) h = let z : _≡_ {A = ℕ} 0 1 = cc in omega arith
+no-second (Ok r) =
+    cond-both (eqb (r .kind) 10) (Ok (Call draining.Report)) (calling (λ c. draining.Any c) (crew-call r)) (λ x. x ≡ Ok Drain → ⊥)
+    (λ _. no-call draining.Report) (λ _. no-drain (λ c. draining.Any c) (crew-call r))
+no-second (Err f) = λ h. let z : _≡_ {A = ℕ} 0 1 = cc in omega arith
 
 -- the part after the drain ends with the script
 read-draining : (stop : Stop) (cs : List DrainingCall) (at : ℕ) (bs : List ℕ) → Calls-up-to draining-item (Stops draining-item stop) cs at bs → Reads-draining cs (stop-fault stop) at bs

@@ -27,7 +27,7 @@ crew-call r =
     (cond (eqb (r .kind) 6) (Ok BeginCollect)
     (cond (eqb (r .kind) 7) (if-times r (GrantCollector (r .times)))
     (cond (eqb (r .kind) 8) (Ok Settle)
-    (cond (leb 1 (r .kind) && leb (r .kind) 9) (Err OutOfPlace) (Err UnknownKind)))))
+    (cond (leb 1 (r .kind) && leb (r .kind) 10) (Err OutOfPlace) (Err UnknownKind)))))
 
 -- the item that makes the call of what was read
 module _ {X C : Type 0} (call : X → C) where
@@ -36,7 +36,7 @@ module _ {X C : Type 0} (call : X → C) where
   calling (Err f) = Err f
 
 abbrev pub draining-item : Record → Result (Item DrainingCall) Fault
-draining-item r = calling (λ c. draining.Any c) (crew-call r)
+draining-item r = cond (eqb (r .kind) 10) (Ok (Call draining.Report)) (calling (λ c. draining.Any c) (crew-call r))
 
 -- `brought` says what the record of a post brings
 module _ {P : Type 0} (brought : Record → Result P Fault) where

@@ -134,7 +134,7 @@ body-at k bs =
     (cond (eqb k 4) (if-long 8 bs (note-post bs))
     (cond (eqb k 5) (if-long 4 bs (lane-grant bs))
     (cond (eqb k 7) (if-long 2 bs (collector-grant bs))
-    (cond (eqb k 6 || (eqb k 8 || eqb k 9)) (if-long 0 bs (blank k))
+    (cond (eqb k 6 || (eqb k 8 || (eqb k 9 || eqb k 10))) (if-long 0 bs (blank k))
     (Err UnknownKind))))))
 
 abbrev pub record-at : List ℕ → Result Record Fault

@@ -50,7 +50,10 @@ pub impl Call for DrainingCall as DrainingCallCall {
     ghost item = { draining-item };
 
     fn of_record(record: &Record) -> Result<Item<DrainingCall>, Fault> {
-        Ok(Item::Call(DrainingCall::Any(crew_call(record)?)))
+        match record.kind {
+            10 => Ok(Item::Call(DrainingCall::Report)),
+            _ => Ok(Item::Call(DrainingCall::Any(crew_call(record)?))),
+        }
     }
 }
 
@@ -68,7 +71,7 @@ fn crew_call(record: &Record) -> Result<CrewCall, Fault>
         6 => Ok(CrewCall::BeginCollect),
         7 => Ok(CrewCall::GrantCollector { times }),
         8 => Ok(CrewCall::Settle),
-        1..=4 | 9 => Err(Fault::OutOfPlace),
+        1..=4 | 9 | 10 => Err(Fault::OutOfPlace),
         _ => Err(Fault::UnknownKind),
     }
 }

@@ -102,8 +102,8 @@ fn read_body(kind: u16, body: &[u8]) -> Result<Record, Fault>
             times: u16::from_le_bytes([*t0, *t1]),
             ..Record::blank(kind)
         }),
-        (6 | 8 | 9, []) => Ok(Record::blank(kind)),
-        (1..=9, _) => Err(Fault::CutShort),
+        (6 | 8 | 9 | 10, []) => Ok(Record::blank(kind)),
+        (1..=10, _) => Err(Fault::CutShort),
         _ => Err(Fault::UnknownKind),
     }
 }

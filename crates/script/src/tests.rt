@@ -40,6 +40,8 @@ const SETTLE: [u8; 4] = [4, 0, 8, 0];
 
 const DRAIN: [u8; 4] = [4, 0, 9, 0];
 
+const REPORT: [u8; 4] = [4, 0, 10, 0];
+
 fn outcome<P: Payload>(read: Calls<P>) -> Outcome {
     let after = match &read.after {
         Some(calls) => Some(calls.len()),
@@ -75,13 +77,15 @@ fn check_behind(heap: Global, first: &[u8], rows: &[(&[u8], &[u8], Outcome)]) ->
 
 #[test]
 fn a_script_begins_with_a_laying(rt: LibcRuntime) -> Result<(), Fail> {
-    let rows: [(&[u8], u8); 8] = [
+    let rows: [(&[u8], u8); 10] = [
         (&[], 0),
         (&[16, 0, 1], 14),
         (&[3, 0, 1, 0], 14),
-        (&[5, 0, 10, 0], 14),
-        (&[5, 0, 10, 0, 0], 15),
-        (&[4, 0, 10, 0], 15),
+        (&[5, 0, 11, 0], 14),
+        (&[5, 0, 11, 0, 0], 15),
+        (&[4, 0, 11, 0], 15),
+        (&[5, 0, 10, 0, 0], 14),
+        (&REPORT, 16),
         (&POST_TICKET, 16),
         (&DRAIN, 16),
     ];
@@ -93,11 +97,12 @@ fn a_script_begins_with_a_laying(rt: LibcRuntime) -> Result<(), Fail> {
 
 #[test]
 fn a_ticket_script_stops_at_its_first_fault(rt: LibcRuntime) -> Result<(), Fail> {
-    let rows: [(&[u8], &[u8], Outcome); 18] = [
+    let rows: [(&[u8], &[u8], Outcome); 19] = [
         (&[], &[], (0, None, 0, 0)),
         (&GRANT_LANE, &[4, 0, 6], (1, None, 14, 24)),
         (&GRANT_LANE, &[5, 0, 6, 0, 0], (1, None, 14, 24)),
-        (&GRANT_LANE, &[4, 0, 10, 0], (1, None, 15, 24)),
+        (&GRANT_LANE, &[4, 0, 11, 0], (1, None, 15, 24)),
+        (&GRANT_LANE, &REPORT, (1, None, 16, 24)),
         (&[4, 0, 0, 0], &GRANT_LANE, (0, None, 15, 16)),
         (&[9, 0, 5, 0, 0, 0, 0, 0, 0], &[], (0, None, 14, 16)),
         (&[8, 0, 5, 0, 0, 0, 0, 0], &[], (0, None, 17, 16)),
@@ -122,7 +127,7 @@ fn a_drain_parts_the_calls(rt: LibcRuntime) -> Result<(), Fail> {
     let mut drained = Vec::from_slice(heap, &TICKETS)?;
     drained.extend_from_slice(&BEGIN_COLLECT)?;
     drained.extend_from_slice(&DRAIN)?;
-    let rows: [(&[u8], &[u8], Outcome); 11] = [
+    let rows: [(&[u8], &[u8], Outcome); 12] = [
         (&[], &[], (1, Some(0), 0, 0)),
         (&GRANT_LANE, &SETTLE, (1, Some(2), 0, 0)),
         (&DRAIN, &[], (1, Some(0), 16, 24)),
@@ -131,7 +136,8 @@ fn a_drain_parts_the_calls(rt: LibcRuntime) -> Result<(), Fail> {
         (&POST_NOTE, &[], (1, Some(0), 16, 24)),
         (&TICKETS, &[], (1, Some(0), 16, 24)),
         (&NOTES, &[], (1, Some(0), 16, 24)),
-        (&[4, 0, 10, 0], &[], (1, Some(0), 15, 24)),
+        (&[4, 0, 11, 0], &[], (1, Some(0), 15, 24)),
+        (&REPORT, &SETTLE, (1, Some(2), 0, 0)),
         (&[6, 0, 7, 0, 0, 0], &[], (1, Some(0), 17, 24)),
         (&SETTLE, &[4, 0, 8], (1, Some(1), 14, 28)),
     ];

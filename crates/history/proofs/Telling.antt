@@ -1,0 +1,19 @@
+-- The small stories, computed.
+use native.Mathlib.Omega.{arith}
+use mathlib.Core.Path.{refl}
+use Rattle.history.specs.Stories.{Small-lists-tell-their-story}
+
+pub small-lists-tell-their-story : Small-lists-tell-their-story
+small-lists-tell-their-story = (
+  record { laid = refl; before = grind arith; behind = grind arith; events = refl },
+  (
+    record { laid = refl; before = grind arith; behind = grind arith; events = refl },
+    (
+      record { laid = refl; before = grind arith; behind = grind arith; events = refl },
+      (
+        record { laid = refl; before = grind arith; behind = grind arith; events = refl },
+        (record { laid = refl; before = grind arith; behind = grind arith; events = refl }, tt),
+      ),
+    ),
+  ),
+)
