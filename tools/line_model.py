@@ -448,8 +448,8 @@ def answers(lines, tally):
 class Dice:
     """A small generator of pseudo-random numbers, the same on every machine."""
 
-    def __init__(self, seed):
-        self.state = (seed * STEP + 1) & MASK or 1
+    def __init__(self, key):
+        self.state = (key * STEP + 1) & MASK or 1
 
     def roll(self, low, high):
         """A number from low to high, both included."""
@@ -663,11 +663,11 @@ def generated(tally):
     worked = [call.strip() for line in WORKED.strip().splitlines() for call in line.split("|")]
     lines += worked
     out += answers(worked, tally)
-    seed = 0
+    key = 0
     for style, count in STYLES:
         for _ in range(count):
-            seed += 1
-            author = Author(style, Dice(seed), tally)
+            key += 1
+            author = Author(style, Dice(key), tally)
             author.list()
             lines += author.lines
             out += author.out
@@ -811,8 +811,8 @@ def worked_cases():
 
 def drained_dry():
     """After every post has ended, collects deliver each posted frame once, oldest first, and then end empty."""
-    for seed in range(1, 60):
-        dice, tally = Dice(9000 + seed), Tally()
+    for key in range(1, 60):
+        dice, tally = Dice(9000 + key), Tally()
         author = Author(Style(lanes=(1, 6), cells=(2, 7), burst=9, calls=80, odd=0), dice, tally)
         author.list()
         crew, walk = author.walk.crew, author.walk
