@@ -31,8 +31,8 @@ use Rattle.line.specs.Post.{lane-access, one-more}
 use Rattle.order.specs.Events.Event.{began-collect, began-post, quiet}
 use Rattle.order.specs.Logs.{Log}
 use Rattle.order.specs.Books.{Book}
-use Rattle.order.proofs.Lists.{upd-other, upd-same}
 use Rattle.order.specs.Tables.{upd}
+use Rattle.order.proofs.Lists.{upd-other, upd-same}
 use Rattle.history.specs.Happening.{grant-collector-event, grant-lane-event, if-accepted}
 use Rattle.history.specs.Performing.{Memory, State, drain, granted-collector, granted-lane, on-memory, state-of}
 use Rattle.history.specs.Promise.{Too-short-elsewhere}

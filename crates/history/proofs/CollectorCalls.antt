@@ -41,8 +41,8 @@ use Rattle.order.specs.Events.Event.{ended-collect, freed, stepped-collector}
 use Rattle.order.specs.Logs.{Log, log-step}
 use Rattle.order.specs.Books.{Book, book-step}
 use Rattle.order.specs.Tables.{upd}
-use Rattle.history.specs.Limits.{as-total, most-collect-grants}
 use Rattle.order.proofs.Lists.{upd-other, upd-same}
+use Rattle.history.specs.Limits.{as-total, most-collect-grants}
 use Rattle.history.specs.Happening.{collector-event, freed-with, in-hand}
 use Rattle.history.specs.Performing.{State, state-of}
 use Rattle.history.proofs.Slot.{wanted}
@@ -56,7 +56,7 @@ use Rattle.history.proofs.LaneTies.{Step, with-fetched}
 use Rattle.history.proofs.CollectTies.{ends-delivered, ends-empty, ends-slotting, fetches, frees-it, goes-on}
 use Rattle.history.proofs.Ledger.{Few, Ledger, ledger-ended-collect, ledger-freed, ledger-stepped-collector, few-tries, total-more, total-same}
 use Rattle.history.proofs.Mirror.{Mirror, copied-is, field-here, lane-memory, memory, mirror-collector, progress-of, same-memory, slot-swaps, some-lies, stock, trays-written, upd-when, words-written}
-use Rattle.history.proofs.ModelSteps.{collects, kept-below, tick}
+use Rattle.history.proofs.ModelSteps.{collector-granted-model, kept-below, tick}
 use Rattle.history.proofs.Scans.{loaded-none}
 use Rattle.history.proofs.Views.{here}
 use Rattle.history.proofs.Safe.{Leaves, Safe, leaves}
@@ -92,7 +92,7 @@ module _ {P : Type 0} (n K : ℕ) (S : State P) (g : Log P) (k : Book P) (v : Sa
       (words-after sh (collector-access sh (c .heads) at) (S .words)) (trays-after sh (collector-access sh (c .heads) at) (S .trays))
 
   model-on : (q : Progress) → s .col ≡ q → ModelOk (collect s q)
-  model-on q e = collects s (v .ok) q (λ i. tick s (v .ok) (s .lanes i) (view q i) (rw e at (v .ok .posts i))) (rw e at (v .ok .cols)) (v .ok)
+  model-on q e = collector-granted-model s (v .ok) q (λ i. tick s (v .ok) (s .lanes i) (view q i) (rw e at (v .ok .posts i))) (rw e at (v .ok .cols)) (v .ok)
 
   -- words, trays and head copies stay
   loads : (e : Event P) (q : Progress) (at : CollectStage) (x delivered : ℕ) → progress-of at ≡ q → ModelOk (moved s (s .lanes) q) → Step (moved s (s .lanes) q) G k e

@@ -75,9 +75,6 @@ module _ (n k stamp : ℕ) (cells : 2 ≤ k) (low : stamp ≤ stamp-limit) where
 
 -- the words
 module _ (ws : List ℕ) (n k stamp : ℕ) where
-  abbrev zeros : ℕ
-  zeros = 2 * n + n * k
-
   abbrev rest-words : List ℕ
   rest-words = drop (words-needed (shape n k)) ws
 

@@ -35,13 +35,13 @@ use Rattle.line.specs.Post.{answer-at, lane-access, lane-next, next-tail, one-m
 use Rattle.line.proofs.Places.{tray-below}
 use Rattle.order.specs.Events.{Event, PostEnd}
 use Rattle.order.specs.Accounts.{number-posted}
-use Rattle.order.proofs.Lists.{upd-other, upd-same}
-use Rattle.order.proofs.Totals.{one-posted}
 use Rattle.order.specs.Events.PostEnd.{as-full, as-posted, as-used-up}
 use Rattle.order.specs.Events.Event.{ended-post, stepped-lane, took}
 use Rattle.order.specs.Logs.{Log, log-step}
 use Rattle.order.specs.Books.{Book, book-step}
 use Rattle.order.specs.Tables.{upd}
+use Rattle.order.proofs.Lists.{upd-other, upd-same}
+use Rattle.order.proofs.Totals.{one-posted}
 use Rattle.history.specs.Limits.{as-total, most-post-grants}
 use Rattle.history.specs.Happening.{given-stamp, lane-event}
 use Rattle.history.specs.Performing.{State, state-of}
@@ -52,7 +52,7 @@ use Rattle.history.proofs.LaneSteps.{heads-below, tails-below}
 use Rattle.history.proofs.LaneTies.{Step, ends-full, ends-posted, ends-used-up, fills-cell, marks-cell, moves-past, publishes-it, takes, with-load, with-tray}
 use Rattle.history.proofs.Ledger.{Ledger, ledger-ended-post, ledger-stepped-lane, ledger-took, rank, total-more, total-same, tries-few, tries-more}
 use Rattle.history.proofs.Mirror.{Mirror, RowTie, copied-is, lane-memory, lane-memory-same, lies, memory, mirror-lane, slot-swaps, stock, trays-written, upd-when, words-written}
-use Rattle.history.proofs.ModelSteps.{lane-any}
+use Rattle.history.proofs.ModelSteps.{lane-granted-model}
 use Rattle.history.proofs.Safe.{Leaves, Safe, leaves}
 
 module _ {P : Type 0} (n K : ℕ) (S : State P) (g : Log P) (k : Book P) (v : Safe n K S g k) (r : ℕ) (below : r < v .model .n) where
@@ -195,7 +195,7 @@ module _ {P : Type 0} (n K : ℕ) (S : State P) (g : Log P) (k : Book P) (v : Sa
   at-test-space e =
       let same : eqb (loaded (S .words) (word-of sh (Head r)) % row .cells) (next-tail row) ≡ eqb (l .heads) ((l .tails + 1) % s .K) = cc (head-read, next-is) in
       subst (λ (b : Bool). Result TestSpace (cond b EndsFull (Goes TakeStamp)) (S .words) (S .trays)) (sym same)
-      (both (eqb (l .heads) ((l .tails + 1) % s .K)) refl (lane-any s (v .ok) r TestSpace e))
+      (both (eqb (l .heads) ((l .tails + 1) % s .K)) refl (lane-granted-model s (v .ok) r TestSpace e))
     where
       both : (b : Bool) → eqb (l .heads) ((l .tails + 1) % s .K) ≡ b → ModelOk (moved s (upd (s .lanes) r (cond b (goes l AtRest) (goes l TakeStamp))) (s .col))
           → Result TestSpace (cond b EndsFull (Goes TakeStamp)) (S .words) (S .trays)
@@ -210,7 +210,7 @@ module _ {P : Type 0} (n K : ℕ) (S : State P) (g : Log P) (k : Book P) (v : Sa
       let w : loaded (S .words) (word-of sh (Slot r)) ≡ l .slot = m .words (Slot r) in-shape in
       subst (λ (y : ℕ). Result (Look j x) (Goes (LoadHead j x y)) (S .words) (S .trays)) (sym w)
       (moves-on (Look j x) (LoadHead j x (l .slot)) (row-to (LoadHead j x (l .slot))) e (row-tie (LoadHead j x (l .slot)) (one-more (row .grants)) (goes l (LoadHead j x (l .slot))) refl refl)
-      (tries-more j 5) (tries-few j 5 (omega arith)) (lane-any s (v .ok) r (Look j x) e)
+      (tries-more j 5) (tries-few j 5 (omega arith)) (lane-granted-model s (v .ok) r (Look j x) e)
       (moves-past s (v .ok) G k (v .tied) r below (LoadHead j x (l .slot)) (rw e at (old .waits)) (rw e at (old .post))))
 
   at-load-head : (j : Attempt) (x y : ℕ) → l .stage ≡ LoadHead j x y → Granted (LoadHead j x y)
@@ -218,7 +218,7 @@ module _ {P : Type 0} (n K : ℕ) (S : State P) (g : Log P) (k : Book P) (v : Sa
       let same : eqb (loaded (S .words) (word-of sh (Head r)) % row .cells) (row .tail) ≡ eqb (l .heads) (l .tails) = cc (head-read, tie .tail) in
       subst (λ (b : Bool). Result (LoadHead j x y) (cond b (EndsPosted x) (Goes (LoadFront j x y (loaded (S .words) (word-of sh (Head r)) % row .cells)))) (S .words) (S .trays)) (sym same)
       (subst (λ (i : ℕ). Result (LoadHead j x y) (cond (eqb (l .heads) (l .tails)) (EndsPosted x) (Goes (LoadFront j x y i))) (S .words) (S .trays)) (sym head-read)
-      (both (eqb (l .heads) (l .tails)) (lane-any s (v .ok) r (LoadHead j x y) e)))
+      (both (eqb (l .heads) (l .tails)) (lane-granted-model s (v .ok) r (LoadHead j x y) e)))
     where
       both : (b : Bool) → ModelOk (moved s (upd (s .lanes) r (cond b (ends l (s .now) x (l .slot)) (goes l (LoadFront j x y (l .heads))))) (s .col))
           → Result (LoadHead j x y) (cond b (EndsPosted x) (Goes (LoadFront j x y (l .heads)))) (S .words) (S .trays)
@@ -233,7 +233,7 @@ module _ {P : Type 0} (n K : ℕ) (S : State P) (g : Log P) (k : Book P) (v : Sa
       let w : loaded (S .words) (word-of sh (CellStamp r i)) ≡ l .cell i = m .words (CellStamp r i) (in-shape, omega (arith, m .cells)) in
       let same : eqb (loaded (S .words) (word-of sh (CellStamp r i))) x ≡ eqb (l .cell i) x = ap (λ (z : ℕ). eqb z x) w in
       subst (λ (b : Bool). Result (LoadFront j x y i) (cond b (Goes (SwapSlot j x y)) (EndsPosted x)) (S .words) (S .trays)) (sym same)
-      (both own (eqb (l .cell i) x) (lane-any s (v .ok) r (LoadFront j x y i) e))
+      (both own (eqb (l .cell i) x) (lane-granted-model s (v .ok) r (LoadFront j x y i) e))
     where
       both : Own (s .counter) x (whole (l .ring) (view (s .col) r)) → (b : Bool) → ModelOk (moved s (upd (s .lanes) r (cond b (goes l (SwapSlot j x y)) (ends l (s .now) x (l .slot)))) (s .col))
           → Result (LoadFront j x y i) (cond b (Goes (SwapSlot j x y)) (EndsPosted x)) (S .words) (S .trays)
@@ -256,7 +256,7 @@ module _ {P : Type 0} (n K : ℕ) (S : State P) (g : Log P) (k : Book P) (v : Sa
   at-swap-slot : (j : Attempt) (x y : ℕ) → l .stage ≡ SwapSlot j x y → Granted (SwapSlot j x y)
   at-swap-slot j x y e =
       subst (λ (b : Bool). Result (SwapSlot j x y) (lane-next row (SwapSlot j x y) (cond b 1 0)) (cond b (set (S .words) (word-of sh (Slot r)) x) (S .words)) (S .trays)) (sym (slot-swaps S s G m r y below))
-      (by-attempt j e (lane-any s (v .ok) r (SwapSlot j x y) e))
+      (by-attempt j e (lane-granted-model s (v .ok) r (SwapSlot j x y) e))
     where
       by-attempt : (j : Attempt) → l .stage ≡ SwapSlot j x y → ModelOk (grant-lane s r (SwapSlot j x y))
           → Result (SwapSlot j x y) (lane-next row (SwapSlot j x y) (cond (eqb (l .slot) y) 1 0)) (cond (eqb (l .slot) y) (set (S .words) (word-of sh (Slot r)) x) (S .words)) (S .trays)
@@ -303,7 +303,7 @@ module _ {P : Type 0} (n K : ℕ) (S : State P) (g : Log P) (k : Book P) (v : Sa
       (closes (stepped-lane r) (goes l (MarkCell x)) (with-tray G r (upd (G .tray r) (l .tails) (G .hand r))) (S .words) (set (S .trays) (tray-of sh (Cell r (l .tails))) y) (row-to (MarkCell x)) (c .posted)
       refl (length-set (S .trays) (tray-of sh (Cell r (l .tails))) y)
       (λ b ib. m .words b ib ∙ sym (lane-memory-same (s .lanes) r (goes l (MarkCell x)) s (moved s (upd (s .lanes) r (goes l (MarkCell x))) (s .col)) refl refl refl refl refl refl (λ i. refl) b))
-      (filled-goods y hy) (row-tie (MarkCell x) (one-more (row .grants)) (goes l (MarkCell x)) refl refl) refl (lane-any s (v .ok) r (FillCell x) e) st
+      (filled-goods y hy) (row-tie (MarkCell x) (one-more (row .grants)) (goes l (MarkCell x)) refl refl) refl (lane-granted-model s (v .ok) r (FillCell x) e) st
       (goes-ledger (FillCell x) (goes l (MarkCell x)) e refl (omega arith))))
 
   at-mark-cell : (x : ℕ) → l .stage ≡ MarkCell x → Granted (MarkCell x)
@@ -317,7 +317,7 @@ module _ {P : Type 0} (n K : ℕ) (S : State P) (g : Log P) (k : Book P) (v : Sa
       (ap (λ (z : LaneModel). z .cell (l .tails)) (upd-same (s .lanes) r l′) ∙ upd-same (l .cell) (l .tails) x)
       (lane-memory (s .lanes) r l′ s s′ (CellStamp r (l .tails)) refl refl refl (λ z. refl) (λ z. refl) (λ z. refl)
       (λ i z. let ni : i ≢ l .tails = λ f. z (ap (CellStamp r) f) in rw (ne-eqb i (l .tails) ni) refl)) (m .words))
-      (m .goods) (row-tie (Publish x) (one-more (row .grants)) l′ refl refl) refl (lane-any s (v .ok) r (MarkCell x) e) (marks-cell s (v .ok) G k (v .tied) r below x e)
+      (m .goods) (row-tie (Publish x) (one-more (row .grants)) l′ refl refl) refl (lane-granted-model s (v .ok) r (MarkCell x) e) (marks-cell s (v .ok) G k (v .tied) r below x e)
       (goes-ledger (MarkCell x) l′ e refl (omega arith)))
 
   at-publish : (x : ℕ) → l .stage ≡ Publish x → Granted (Publish x)
@@ -330,7 +330,7 @@ module _ {P : Type 0} (n K : ℕ) (S : State P) (g : Log P) (k : Book P) (v : Sa
       (words-written sh (S .words) (m .board) (Tail r) (next-tail row) (memory s) (memory s′) in-shape
       (ap (λ (z : LaneModel). z .tails) (upd-same (s .lanes) r l′) ∙ sym next-is)
       (lane-memory (s .lanes) r l′ s s′ (Tail r) refl refl refl (λ z. refl) (λ z. refl) (λ z. absurd (z refl)) (λ i z. refl)) (m .words))
-      (m .goods) (record { cells = tie .cells; tail = next-is; stage = refl }) refl (lane-any s (v .ok) r (Publish x) e) (publishes-it s (v .ok) G k (v .tied) r below x e)
+      (m .goods) (record { cells = tie .cells; tail = next-is; stage = refl }) refl (lane-granted-model s (v .ok) r (Publish x) e) (publishes-it s (v .ok) G k (v .tied) r below x e)
       (goes-ledger (Publish x) l′ e refl (omega arith))
 
   -- the counter
@@ -355,7 +355,7 @@ module _ {P : Type 0} (n K : ℕ) (S : State P) (g : Log P) (k : Book P) (v : Sa
       (state-of ws (S .trays) (with-row c r (row-at row (row .tail) (cond (eqb w stamp-limit) EndsUsedUp (Goes (FillCell w)))) (posted-after (c .posted) (answer-at (one-more (row .grants)) (cond (eqb w stamp-limit) EndsUsedUp (Goes (FillCell w)))))))
 
   at-take-stamp : l .stage ≡ TakeStamp → Granted TakeStamp
-  at-take-stamp e = both (ltb (s .counter) stamp-limit) refl (lane-any s (v .ok) r TakeStamp e)
+  at-take-stamp e = both (ltb (s .counter) stamp-limit) refl (lane-granted-model s (v .ok) r TakeStamp e)
     where
       takes-one : s .counter < stamp-limit → ModelOk (taken s r) → Outcome (s .counter) (s .counter) (set (S .words) (word-of sh Counter) (s .counter + 1))
       takes-one lt o =

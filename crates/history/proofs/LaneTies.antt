@@ -94,9 +94,6 @@ module _ {P : Type 0} (s : LineModel) (h : ModelOk s) (G : Goods P) (k : Book P)
   quiet-step = record { admits = tt; tied = record { now = ap suc (t .now); top = t .top; lanes = t .lanes; others = t .others; collect = t .collect } }
 
   module _ (r : ℕ) (below : r < s .n) where
-    abbrev pub l : LaneModel
-    l = s .lanes r
-
     old : LaneTie r (s .K) (s .took) (G .load) (G .hand r) (G .tray r) (s .lanes r) (k .posts r) (k .waiting r)
     old = t .lanes r below
 
@@ -104,7 +101,7 @@ module _ {P : Type 0} (s : LineModel) (h : ModelOk s) (G : Goods P) (k : Book P)
     ok = h .posts r
 
     -- the lane's stage or ring changes, and the book sees nothing
-    pub stepped : (l′ : LaneModel) → LaneTie r (s .K) (s .took) (G .load) (G .hand r) (G .tray r) l′ (k .posts r) (k .waiting r)
+    stepped : (l′ : LaneModel) → LaneTie r (s .K) (s .took) (G .load) (G .hand r) (G .tray r) l′ (k .posts r) (k .waiting r)
         → Step (moved s (upd (s .lanes) r l′) (s .col)) G k (stepped-lane r)
     stepped l′ a =
         record {
@@ -121,7 +118,7 @@ module _ {P : Type 0} (s : LineModel) (h : ModelOk s) (G : Goods P) (k : Book P)
               };
         }
 
-    pub stepped-tray : (l′ : LaneModel) (f : ℕ → Option P) → LaneTie r (s .K) (s .took) (G .load) (G .hand r) f l′ (k .posts r) (k .waiting r)
+    stepped-tray : (l′ : LaneModel) (f : ℕ → Option P) → LaneTie r (s .K) (s .took) (G .load) (G .hand r) f l′ (k .posts r) (k .waiting r)
         → Step (moved s (upd (s .lanes) r l′) (s .col)) (with-tray G r f) k (stepped-lane r)
     stepped-tray l′ f a =
         record {
@@ -283,9 +280,6 @@ module _ {P : Type 0} (s : LineModel) (h : ModelOk s) (G : Goods P) (k : Book P)
     module _ (x σ : ℕ) (own : Own (s .counter) x (whole (s .lanes r .ring) (view (s .col) r))) (m : Match r (G .load) (s .took) (s .lanes r .ended) (k .waiting r) (front (s .lanes r .ring))) where
       last : Ends x (s .lanes r .ring)
       last = ends-part x (s .lanes r .ring) (view (s .col) r) (own .last)
-
-      front-none : (R : List ℕ) → R ≡ [] → front R ≡ R
-      front-none R e = rw e refl
 
       ended-as : (p : Post P) → k .posts r ≡ p → Past (s .took) (G .load) (s .lanes r .ring) x p → Answers x p × Tied (moved s (upd (s .lanes) r (ends (s .lanes r) (s .now) x σ)) (s .col)) G (book-posted k r p)
       ended-as p e (inl ((b, y, u, f, g, i), n)) =

@@ -20,11 +20,11 @@ use Rattle.order.specs.Books.{Book, book-step}
 use Rattle.order.specs.Guards.{Admits}
 use Rattle.order.specs.Bounds.{CollectsEndBy, PostsEndBy}
 use Rattle.order.specs.Accounts.{number-delivered, number-posted}
+use Rattle.order.specs.Tables.{upd}
 use Rattle.order.proofs.Steps.{Kept, kept-step}
 use Rattle.order.proofs.GrantBounds.{CollectGoesOn, CollectStaysBelow, PostGoesOn, PostStaysBelow, collects-end-step, posts-end-step}
 use Rattle.order.proofs.Totals.{one-delivered, one-posted, totals-step}
 use Rattle.order.proofs.Agreement.{posting}
-use Rattle.order.specs.Tables.{upd}
 use Rattle.history.specs.Limits.{as-total, capacity, most-collect-grants, most-post-grants}
 use Rattle.history.proofs.Lanes.{LaneModel}
 use Rattle.history.proofs.Model.{LineModel, Progress}

@@ -18,7 +18,7 @@ use Rattle.history.proofs.Ring.{apart}
 use Rattle.history.proofs.Waits.{front-ends}
 
 -- the stamps before the last are lower
-pub ends-front : (s : ℕ) (R : List ℕ) → Ends s R → All (λ x. x < s) (front R)
+ends-front : (s : ℕ) (R : List ℕ) → Ends s R → All (λ x. x < s) (front R)
 ends-front s [] e = tt
 ends-front s (x ∷ []) e = tt
 ends-front s (x ∷ (y ∷ R)) (l, e) = (l, ends-front s (y ∷ R) e)
@@ -44,7 +44,7 @@ module _ {P : Type 0} (r : ℕ) where
     match-length (w ∷ ws) [] m = absurd m
     match-length (w ∷ ws) (x ∷ xs) (f, m) = ap suc (match-length ws xs m)
 
-    pub match-push : (ws : List (Waiting P)) (xs : List ℕ) (w : Waiting P) (x : ℕ) → Fits r load took ended w x → Match r load took ended ws xs → Match r load took ended (ws ++ w ∷ []) (xs ++ x ∷ [])
+    match-push : (ws : List (Waiting P)) (xs : List ℕ) (w : Waiting P) (x : ℕ) → Fits r load took ended w x → Match r load took ended ws xs → Match r load took ended (ws ++ w ∷ []) (xs ++ x ∷ [])
     match-push [] [] w x f m = (f, tt)
     match-push [] (y ∷ xs) w x f m = absurd m
     match-push (v ∷ ws) [] w x f m = absurd m

@@ -91,12 +91,12 @@ pub record Mirror {P : Type 0} (S : State P) (s : LineModel) (G : Goods P) : Typ
 
 -- trays
 module _ {P : Type 0} where
-  pub lies-set : (ps : List P) (i : ℕ) (x : P) → i < length ps → lies (set ps i x) i ≡ some x
+  lies-set : (ps : List P) (i : ℕ) (x : P) → i < length ps → lies (set ps i x) i ≡ some x
   lies-set [] i x h = absurd (omega arith)
   lies-set (y ∷ ps) zero x h = refl
   lies-set (y ∷ ps) (suc i) x h = lies-set ps i x (omega arith)
 
-  pub lies-other : (ps : List P) (i j : ℕ) (x : P) → j ≢ i → lies (set ps i x) j ≡ lies ps j
+  lies-other : (ps : List P) (i j : ℕ) (x : P) → j ≢ i → lies (set ps i x) j ≡ lies ps j
   lies-other [] i j x n = refl
   lies-other (y ∷ ps) zero zero x n = absurd (n refl)
   lies-other (y ∷ ps) zero (suc j) x n = refl

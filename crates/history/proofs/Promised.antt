@@ -4,7 +4,8 @@ use native.Mathlib.Omega.{arith}
 use mathlib.Core.Path.{_≡_, subst}
 use mathlib.Core.List.{List, [], _∷_, _++_}
 use Rattle.line.specs.declared.crew.Core.{Core}
-use Rattle.line.specs.Calls.{lays}
+use Rattle.line.specs.Calls.{lays, begins-collect}
+use Rattle.line.specs.Crew.{row-of}
 use Rattle.order.specs.Events.{Event}
 use Rattle.order.specs.Events.Event.{began-collect, began-post, quiet}
 use Rattle.order.specs.Logs.{Log, log-from, log-of, log-step, start}
@@ -19,8 +20,6 @@ use Rattle.history.specs.Performing.{DrainingCall, OpenCall, State, drain, dra
 use Rattle.history.specs.Performing.OpenCall.{begin-post, lay}
 use Rattle.history.specs.Performing.DrainingCall.{report}
 use Rattle.history.specs.Promise.{Accounted, Calls-meet-the-guards, Draining-call-admitted, Draining-calls-admitted, Every-list-of-calls-keeps-the-promise, Keeps-promise, Open-call-admitted, Open-calls-admitted, laid-state}
-use Rattle.line.specs.Calls.{begins-collect}
-use Rattle.line.specs.Crew.{row-of}
 use Rattle.history.proofs.Called.{begin-collect-leaves, begin-post-leaves, drain-leaves, fill-leaves, grant-collector-leaves, grant-lane-leaves, lay-leaves, settle-leaves}
 use Rattle.history.proofs.Reported.{accepted-unreported, collector-unreported, lane-unreported, report-called, unreported}
 use Rattle.history.proofs.Laid.{laid-safe}
@@ -87,10 +86,6 @@ module _ {P : Type 0} (n K : ℕ) where
       let one = open-call S g k v call h in
       and-then g k (open-event S call) (open-events (open-done S call .state) calls) (open-done S call .state) (open-end (open-done S call .state) calls) one
       (open-calls (open-done S call .state) (log-step g (open-event S call)) (book-step k (open-event S call)) (one .leaves .safe) (one .account) calls hs)
-
-  draining-end : State P → List (DrainingCall P) → State P
-  draining-end S [] = S
-  draining-end S (call ∷ calls) = draining-end (draining-done S call .state) calls
 
   draining-calls : (S : State P) (g : Log P) (k : Book P) → Safe n K S g k → Accounted g → (calls : List (DrainingCall P)) → Draining-calls-admitted S calls → (S′ : State P) × Went-well g k (draining-events S calls) S′
   draining-calls S g k v a [] h = (S, record { admitted = tt; safe = v; account = a })

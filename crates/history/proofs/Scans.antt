@@ -12,16 +12,16 @@ use Rattle.std.proofs.shelf.Tests.{cond-both}
 use Rattle.std.proofs.shelf.Ways.{tells}
 use Rattle.std.proofs.shelf.Elements.{all-weaker}
 use Rattle.boards.specs.Words.{empty-word, stamp-limit}
+use Rattle.line.specs.declared.lane.Attempt.the-variants.{First, Second}
+use Rattle.line.specs.declared.lane.Stage.{Stage}
+use Rattle.line.specs.declared.lane.Stage.the-variants.{AtRest, TestSpace, TakeStamp, FillCell, MarkCell, Publish, Look, LoadHead, LoadFront, SwapSlot}
 use Rattle.order.specs.Tables.{upd}
 use Rattle.history.proofs.Slot.{Duty, View, wanted, Late}
-use Rattle.line.specs.declared.lane.Attempt.the-variants.{First, Second}
 use Rattle.history.proofs.Slot.Duty.{quiet, look, head, swap}
 use Rattle.history.proofs.Slot.View.{away}
 use Rattle.history.proofs.Lanes.{LaneModel, duty, ends, grant, whole, Rising, Own, StageOk, LaneOk, Timed, waits, front}
-use Rattle.line.specs.declared.lane.Stage.{Stage}
-use Rattle.line.specs.declared.lane.Stage.the-variants.{AtRest, TestSpace, TakeStamp, FillCell, MarkCell, Publish, Look, LoadHead, LoadFront, SwapSlot}
 use Rattle.history.proofs.Model.{After}
-use Rattle.history.proofs.Waits.{front-push, all-back, waits-all, ends-part}
+use Rattle.history.proofs.Waits.{front-push, all-with-last, waits-all, ends-part}
 
 -- an earlier time
 pub after-less : (a b : ℕ) (l : LaneModel) → a ≤ b → After b l → After a l
@@ -76,7 +76,7 @@ module _ (K counter now : ℕ) (took : ℕ → ℕ) (l : LaneModel) (h : LaneOk 
 module _ (K counter now : ℕ) (took : ℕ → ℕ) (l : LaneModel) (c : View) (a : ℕ) (past : a < now) where
   after-ends : (s σ : ℕ) → Own counter s (whole (l .ring) c) → All (λ x. a < l .ended x) (front (l .ring)) → After a (ends l now s σ)
   after-ends s σ o k =
-      all-back _ s (l .ring) (ends-part s (l .ring) c (o .last)) (all-weaker (λ x. a < l .ended x) (λ x. a < upd (l .ended) s now x) (λ x f. grind (arith, tells)) (front (l .ring)) k) (grind (arith, tells))
+      all-with-last _ s (l .ring) (ends-part s (l .ring) c (o .last)) (all-weaker (λ x. a < l .ended x) (λ x. a < upd (l .ended) s now x) (λ x f. grind (arith, tells)) (front (l .ring)) k) (grind (arith, tells))
 
   pub after-grant : (g : Stage) → StageOk K counter (whole (l .ring) c) (length (l .ring)) (l .tails) (l .cell) g → l .stage ≡ g → All (λ x. a < l .ended x) (waits (l .ring) g) → After a (grant K now l g)
   after-grant AtRest h e k = rw e k

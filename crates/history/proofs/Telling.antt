@@ -5,14 +5,17 @@ use Rattle.history.specs.Stories.{Small-lists-tell-their-story}
 
 pub small-lists-tell-their-story : Small-lists-tell-their-story
 small-lists-tell-their-story = (
-  record { laid = refl; before = grind arith; behind = grind arith; events = refl },
+  record { accepted = refl; before = grind arith; behind = grind arith; events = refl },
   (
-    record { laid = refl; before = grind arith; behind = grind arith; events = refl },
+    record { accepted = refl; before = grind arith; behind = grind arith; events = refl },
     (
-      record { laid = refl; before = grind arith; behind = grind arith; events = refl },
+      record { accepted = refl; before = grind arith; behind = grind arith; events = refl },
       (
-        record { laid = refl; before = grind arith; behind = grind arith; events = refl },
-        (record { laid = refl; before = grind arith; behind = grind arith; events = refl }, tt),
+        record { accepted = refl; before = grind arith; behind = grind arith; events = refl },
+        (
+          record { accepted = refl; before = grind arith; behind = grind arith; events = refl },
+          (record { accepted = refl; before = grind arith; behind = grind arith; events = refl }, tt),
+        ),
       ),
     ),
   ),

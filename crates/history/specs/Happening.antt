@@ -1,8 +1,8 @@
 -- What a call looks like from outside: the one event of a history that it leaves. It is read off the answer, and off the state
 -- before the call: which stage the granted party was at, which stamp the counter gave, and what lay in the collector's hand.
+use Prim.Native.Nat.{ℕ}
 use mathlib.Core.Bool.{cond}
 use mathlib.Core.List.{List, [], _∷_}
-use Prim.Native.Nat.{ℕ}
 use lib.Dec.{eqb}
 use lib.ListN.{drop}
 use Rattle.boards.specs.Words.{taken}

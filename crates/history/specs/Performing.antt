@@ -4,9 +4,9 @@
 -- Memory       words and trays other than the line's
 -- elsewhere    the memory that a call is given in place of the line's, if it is
 -- Done         what a call tells, and the state that it leaves
+use Prim.Native.Nat.{ℕ}
 use mathlib.Core.List.{List, [], _∷_}
 use mathlib.Core.Option.{Option, none, some}
-use Prim.Native.Nat.{ℕ}
 use Rattle.line.specs.declared.crew.Core.{Core}
 use Rattle.line.specs.Answers.{Told}
 use Rattle.line.specs.Calls.{CrewOutcome, Outcome, begins-collect, begins-post, drained, fills, grants-collector, grants-lane, lays, reports, settles}

@@ -3,11 +3,11 @@
 -- admitted     the list has no second accepted laying (refused ones may stand in it), and a call that was given other memory
 --              than the line's was refused because that memory is too short (3)
 -- keeps        the operations stand in a single-file order, every operation ends within its bound, and a report gives the account
+use Prim.Native.Nat.{ℕ}
 use mathlib.Core.Path.{_≡_}
 use mathlib.Core.List.{List, [], _++_, _∷_}
 use mathlib.Core.Logic.{_≢_}
 use mathlib.Core.Option.{Option, none, some}
-use Prim.Native.Nat.{ℕ}
 use Rattle.line.specs.declared.crew.Core.{Core}
 use Rattle.line.specs.Answers.{Told}
 use Rattle.line.specs.Calls.{lays}

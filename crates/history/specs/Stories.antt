@@ -1,6 +1,5 @@
 -- Small lists of calls, each with the history that it leaves, written out by hand: a table that holds the definitions of calls and
--- events against what one would say. Payloads are numbers; the memory that is laid over is six words and four trays of 9, enough for one
--- lane of two cells.
+-- events against what one would say. Payloads are numbers; the memory that is laid over is twenty words and twenty trays, all 9.
 use Prim.Native.Nat.{ℕ, _^_}
 use mathlib.Core.Path.{_≡_}
 use mathlib.Core.List.{List, [], _++_, _∷_}
@@ -20,27 +19,30 @@ use Rattle.history.specs.Performing.DrainingCall.{report}
 use Rattle.history.specs.Promise.{Draining-calls-admitted, Open-calls-admitted, laid-state}
 
 pub record Story : Type 0 where
+  pub lanes : ℕ
+  pub cells : ℕ
   pub stamp : ℕ
   pub before : List (OpenCall ℕ)
   pub behind : List (DrainingCall ℕ)
   pub events : List (Event ℕ)
 
-abbrev pub laid-at : ℕ → State ℕ
-laid-at stamp = laid-state (replicate 6 9) (replicate 4 9) never-laid 1 2 stamp
+-- a post of lane r on an empty lane takes nine grants; a collect of the one frame of a line of one lane six
+abbrev pub grants-of : ℕ → ℕ → List (OpenCall ℕ)
+grants-of r times = replicate times (grant-lane none r)
 
--- a post on an empty line takes nine grants, and a collect of its frame six
-abbrev pub whole-post : ℕ → List (OpenCall ℕ)
-whole-post x = begin-post none 0 x ∷ replicate 9 (grant-lane none 0)
+abbrev pub whole-post : ℕ → ℕ → List (OpenCall ℕ)
+whole-post r x = begin-post none r x ∷ grants-of r 9
 
-abbrev pub post-story : ℕ → ℕ → List (Event ℕ)
-post-story s x = began-post 0 x ∷ stepped-lane 0 ∷ took 0 s ∷ (replicate 6 (stepped-lane 0) ++ ended-post 0 (as-posted s) ∷ [])
+abbrev pub post-story : ℕ → ℕ → ℕ → List (Event ℕ)
+post-story r s x = began-post r x ∷ stepped-lane r ∷ took r s ∷ (replicate 6 (stepped-lane r) ++ ended-post r (as-posted s) ∷ [])
 
-abbrev pub whole-collect : List (OpenCall ℕ)
-whole-collect = begin-collect ∷ (replicate 6 (grant-collector none) ++ settle ∷ [])
+abbrev pub collect-of : ℕ → List (OpenCall ℕ)
+collect-of times = begin-collect ∷ (replicate times (grant-collector none) ++ settle ∷ [])
 
-abbrev pub collect-story : ℕ → ℕ → List (Event ℕ)
-collect-story s x =
-    began-collect ∷ stepped-collector ∷ stepped-collector ∷ freed 0 s x ∷ stepped-collector ∷ stepped-collector ∷ ended-collect (as-delivered 0 s) ∷ quiet ∷ []
+-- so many grants before the free, so many after it, the grant that ends the collect, and the settling
+abbrev pub collect-story : ℕ → ℕ → ℕ → ℕ → ℕ → List (Event ℕ)
+collect-story soon late r s x =
+    began-collect ∷ (replicate soon stepped-collector ++ freed r s x ∷ (replicate late stepped-collector ++ ended-collect (as-delivered r s) ∷ quiet ∷ []))
 
 -- memory with room for nothing
 abbrev pub nowhere : OpenCall ℕ
@@ -50,50 +52,76 @@ abbrev pub stories : List Story
 stories =
     -- one post, one collect, and the account
     record {
+      lanes = 1;
+      cells = 2;
       stamp = 5;
-      before = whole-post 70 ++ whole-collect;
+      before = whole-post 0 70 ++ collect-of 6;
       behind = report ∷ [];
-      events = post-story 5 70 ++ (collect-story 5 70 ++ quiet ∷ reported 1 1 ∷ []);
+      events = post-story 0 5 70 ++ (collect-story 2 2 0 5 70 ++ quiet ∷ reported 1 1 ∷ []);
     }
     -- a lane of two cells holds one frame; a report is refused while it is there
     ∷ record {
+      lanes = 1;
+      cells = 2;
       stamp = 0;
-      before = whole-post 70 ++ begin-post none 0 71 ∷ grant-lane none 0 ∷ [];
+      before = whole-post 0 70 ++ begin-post none 0 71 ∷ grants-of 0 1;
       behind = report ∷ [];
-      events = post-story 0 70 ++ began-post 0 71 ∷ ended-post 0 as-full ∷ quiet ∷ quiet ∷ [];
+      events = post-story 0 0 70 ++ began-post 0 71 ∷ ended-post 0 as-full ∷ quiet ∷ quiet ∷ [];
     }
     -- the stamps are used up
     ∷ record {
+      lanes = 1;
+      cells = 2;
       stamp = 2 ^ 62;
-      before = begin-post none 0 70 ∷ grant-lane none 0 ∷ grant-lane none 0 ∷ [];
+      before = begin-post none 0 70 ∷ grants-of 0 2;
       behind = [];
       events = began-post 0 70 ∷ stepped-lane 0 ∷ ended-post 0 as-used-up ∷ quiet ∷ [];
     }
     -- a collect finds nothing; calls that are refused, one of them for other memory
     ∷ record {
+      lanes = 1;
+      cells = 2;
       stamp = 0;
       before = begin-collect ∷ begin-collect ∷ lay none 0 0 0 ∷ nowhere ∷ grant-lane none 0 ∷ grant-collector none ∷ fill 0 ∷ settle ∷ settle ∷ [];
       behind = report ∷ [];
       events = began-collect ∷ quiet ∷ quiet ∷ quiet ∷ quiet ∷ ended-collect as-empty ∷ quiet ∷ quiet ∷ quiet ∷ quiet ∷ reported 0 0 ∷ [];
     }
-    -- a frame is delivered while its post is under way: the swap of the slot is granted once more after the collect
+    -- the collect of a first frame finds a second one published and tells the slot of it; so the next collect delivers it while its post is
+    -- still under way, and the post then ends, its frame gone
     ∷ record {
+      lanes = 1;
+      cells = 3;
       stamp = 0;
-      before =
-          begin-post none 0 70 ∷ (replicate 8 (grant-lane none 0) ++ begin-collect ∷ grant-lane none 0 ∷ (replicate 6 (grant-collector none) ++ settle ∷ []));
+      before = whole-post 0 70 ++ begin-post none 0 71 ∷ (grants-of 0 5 ++ (collect-of 7 ++ (collect-of 6 ++ grants-of 0 2)));
       behind = report ∷ [];
       events =
-          began-post 0 70 ∷ stepped-lane 0 ∷ took 0 0 ∷ (replicate 6 (stepped-lane 0) ++ began-collect ∷ ended-post 0 (as-posted 0) ∷ stepped-collector ∷ stepped-collector
-          ∷ freed 0 0 70 ∷ stepped-collector ∷ stepped-collector ∷ ended-collect (as-delivered 0 0) ∷ quiet ∷ quiet ∷ reported 1 1 ∷ []);
+          post-story 0 0 70 ++ began-post 0 71 ∷ stepped-lane 0 ∷ took 0 1 ∷ stepped-lane 0 ∷ stepped-lane 0 ∷ stepped-lane 0
+          ∷ (collect-story 2 3 0 0 70 ++ (collect-story 2 2 0 1 71 ++ stepped-lane 0 ∷ ended-post 0 (as-posted 1) ∷ quiet ∷ reported 2 2 ∷ []));
+    }
+    -- the first scan keeps lane 1, whose stamp is the lower one, and the second scan looks at lane 0 once more
+    ∷ record {
+      lanes = 2;
+      cells = 2;
+      stamp = 0;
+      before = whole-post 1 80 ++ (whole-post 0 70 ++ collect-of 8);
+      behind = [];
+      events = post-story 1 0 80 ++ (post-story 0 1 70 ++ (collect-story 4 2 1 0 80 ++ quiet ∷ []));
     }
     ∷ []
 
+module _ (s : Story) where
+  abbrev pub laid : State ℕ
+  laid = laid-state (replicate 20 9) (replicate 20 9) never-laid (s .lanes) (s .cells) (s .stamp)
+
+  abbrev pub draining : State ℕ
+  draining = drain (open-end laid (s .before))
+
 -- the laying is accepted, both lists are admitted, and they leave this history
 pub record Is-told (s : Story) : Type 0 where
-  pub laid : lays {P = ℕ} (replicate 6 9) (replicate 4 9) never-laid 1 2 (s .stamp) .answer .number ≡ 0
-  pub before : Open-calls-admitted (laid-at (s .stamp)) (s .before)
-  pub behind : Draining-calls-admitted (drain (open-end (laid-at (s .stamp)) (s .before))) (s .behind)
-  pub events : open-events (laid-at (s .stamp)) (s .before) ++ quiet ∷ draining-events (drain (open-end (laid-at (s .stamp)) (s .before))) (s .behind) ≡ s .events
+  pub accepted : lays {P = ℕ} (replicate 20 9) (replicate 20 9) never-laid (s .lanes) (s .cells) (s .stamp) .answer .number ≡ 0
+  pub before : Open-calls-admitted (laid s) (s .before)
+  pub behind : Draining-calls-admitted (draining s) (s .behind)
+  pub events : open-events (laid s) (s .before) ++ quiet ∷ draining-events (draining s) (s .behind) ≡ s .events
 
 abbrev pub Small-lists-tell-their-story : Type 0
 Small-lists-tell-their-story = All Is-told stories

@@ -34,22 +34,6 @@ pub enum Reply {
     Last { made: u64, answer: Answer },
 }
 
-/// The number by which a refusal is told.
-fn refusal_number(refusal: Refusal) -> u8 {
-    match refusal {
-        Refusal::BadShape => 1,
-        Refusal::BadStart => 2,
-        Refusal::TooShort => 3,
-        Refusal::NeverLaid => 4,
-        Refusal::NoLane => 5,
-        Refusal::PostUnderWay => 6,
-        Refusal::NoPost => 7,
-        Refusal::CollectUnsettled => 10,
-        Refusal::NoCollect => 11,
-        Refusal::CollectNotEnded => 12,
-    }
-}
-
 impl fmt::Display for Answer as AnswerDisplay {
     fn fmt<W: fmt::Write>(&self, f: &mut fmt::Formatter<W>) -> fmt::Result {
         match *self {
@@ -63,7 +47,7 @@ impl fmt::Display for Answer as AnswerDisplay {
             Answer::Collector(CollectorAnswer::Ended(how)) => write_collected(f, how),
             Answer::Settled(how) => write_collected(f, how),
             Answer::Refused(refusal) => {
-                let number = refusal_number(refusal);
+                let number = refusal.number();
                 write!(f, "{number}")
             }
             Answer::Nothing => write!(f, "nothing"),
