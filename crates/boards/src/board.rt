@@ -1,6 +1,6 @@
 //! The trait `Board` and the two words that have a meaning of their own.
 
-ghost use Rattle.std.specs.Prelude.{◌≡◌, ℕ, List, length};
+ghost use Rattle.std.specs.Prelude.{◌≡◌, ℕ, List, [], length};
 ghost use Rattle.boards.specs.Words.{loaded, stored, swaps, swapped, taken, raised};
 
 /// Marks an empty slot; what a load beyond the length answers.
@@ -18,7 +18,7 @@ pub trait Board {
 
     /// Where these words lie, by a number, and what lies beside them. No call changes that: a board over lent memory keeps its
     /// loan, and bytes that make no word stay.
-    ghost home: { Self → ℕ × List ℕ };
+    ghost home: { Self → ℕ × List ℕ } = { λ _. (0, []) };
 
     /// How many words there are.
     fn len(&self) -> usize

@@ -1,6 +1,7 @@
 //! Boards: lists of 64-bit words of fixed length, known only by their meaning.
 //!
 //! `Board` says what every board does, `Table` owns its words, and `ByteBoard` finds them in lent bytes.
+#![tactic(auto)]
 
 mod board;
 mod bytes;

@@ -4,6 +4,8 @@
 //!
 //! The functions here do nothing. Each names a theorem on its contract, so that the check asks for its proof; a crate
 //! that runs calls cites the theorem for its own list.
+#![tactic(auto)]
+
 ghost use Rattle.history.specs.Promise.{CallsMeetTheGuards, EveryListOfCallsKeepsThePromise};
 ghost use Rattle.history.specs.Stories.{SmallListsTellTheirStory};
 

@@ -1,4 +1,6 @@
 //! The line: lanes that post frames to one collector through a shared board, one granted access at a time.
+#![tactic(auto)]
+
 pub mod access;
 pub mod answer;
 pub mod calls;

@@ -1,4 +1,6 @@
 //! `linewalk`: runs a script from standard input over a line, and prints one line for each record.
+#![tactic(auto)]
+
 use anyhow::anyhow;
 use std::io::{BufWriter, Read, Write};
 use std::{env, io};

@@ -9,6 +9,8 @@
 //! one after it keeps lane 1 again: 8 grants. The last sees two empty slots: 2 grants.
 //! The second line has one lane of two cells: one post fits, with 9 grants, a second finds the lane full with its first grant, and
 //! a collect takes 1 grant to scan and 5 to deliver.
+#![tactic(auto)]
+
 mod ram;
 
 use line::answer::{CollectorAnswer, LaneAnswer, Refusal};
@@ -17,7 +19,8 @@ use line::collector::Collected;
 use line::crew::Crew;
 use line::receipt::{Receipt, Unspent};
 use ram::CameraRam;
-use std::io;
+use std::mem::ManuallyDrop;
+use std::{fmt, io};
 
 /// A row of pixels as a tile read it out.
 #[derive(Clone, Copy)]
@@ -39,11 +42,25 @@ const TRAYS: usize = 9;
 /// More grants than a collect over two lanes can have.
 const MOST_GRANTS: usize = 13;
 
-/// Why the camera stops. A receipt that was not settled cannot be let go, so it leaves with the error.
+/// Why the camera stops. A receipt that was not settled cannot be let go, so it leaves with the error, which keeps it.
+#[derive(Drop)]
 enum Stop {
     Refused(Refusal),
     Io(io::Error),
-    Unsettled(Receipt),
+    Unsettled(ManuallyDrop<Receipt>),
+}
+
+impl fmt::Debug for Stop {
+    fn fmt<W: fmt::Write>(&self, f: &mut fmt::Formatter<W>) -> fmt::Result {
+        match self {
+            Stop::Refused(refusal) => {
+                let number = refusal.number();
+                write!(f, "refused {number}")
+            }
+            Stop::Io(error) => write!(f, "{error}"),
+            Stop::Unsettled(_) => write!(f, "a collect was not settled"),
+        }
+    }
 }
 
 impl From<Refusal> for Stop {
@@ -105,7 +122,7 @@ fn collect<C: AnyCrew>(
                 refusal: _,
                 receipt,
             },
-        ) => Err(Stop::Unsettled(receipt)),
+        ) => Err(Stop::Unsettled(unsafe { ManuallyDrop::new_unchecked(receipt) })),
     }
 }
 

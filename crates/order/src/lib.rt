@@ -4,6 +4,8 @@
 //!
 //! The functions here do nothing. Each names a theorem on its contract, so that the check asks for its proof; a crate
 //! that proves the guards of a line cites the theorem's lemmas from `proofs/`.
+#![tactic(auto)]
+
 ghost use Rattle.order.specs.Promises.{GuardedHistoriesHaveASingleFileOrder, GuardedHistoriesBalance};
 ghost use Rattle.order.specs.Histories.{SmallHistoriesAreJudgedRightly};
 

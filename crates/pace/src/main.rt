@@ -2,6 +2,8 @@
 //!
 //! `pace count` makes 100 cycles over 1, 4 and 16 lanes of eight cells. `pace time LANES CYCLES` makes so many and says how
 //! long they took.
+#![tactic(auto)]
+
 mod cycle;
 mod stop;
 mod tally;

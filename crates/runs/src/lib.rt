@@ -1,4 +1,6 @@
 //! Lists of calls on a line, and their runs.
+#![tactic(auto)]
+
 pub mod answers;
 pub mod calls;
 mod grants;

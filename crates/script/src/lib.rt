@@ -4,6 +4,8 @@
 //! a body; every number is little-endian. `record` reads one record, `payload` turns a post's numbers into what
 //! it brings, `call` says which call a record makes before the drain and after it, `script` reads a whole script,
 //! and `fault` names what can be wrong with one.
+#![tactic(auto)]
+
 pub mod call;
 pub mod fault;
 pub mod payload;

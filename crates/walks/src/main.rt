@@ -4,6 +4,8 @@
 //! board that holds a fixed pattern and trays that do, and is performed twice: over a table, and over a board of WORDS words in
 //! lent bytes. The replies are printed once, then `same` and digests of the words and the trays; where the two boards differ,
 //! both are printed, with `differ` between them.
+#![tactic(auto)]
+
 mod call;
 mod fault;
 mod perform;

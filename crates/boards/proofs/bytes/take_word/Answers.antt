@@ -10,8 +10,8 @@ returns-then-k-bytes c =
     let law = take_past (words_of bs) c.args.k (omega (arith, length_words bs)) in
     record { answer = sym law.0; after = sym law.1; rest = refl }
 
-pub returns-then-count-ge-STAMP-LIMIT : goal.returns-then-count-ge-STAMP-LIMIT
-returns-then-count-ge-STAMP-LIMIT c =
+pub returns-then-count-ge-STAMP_LIMIT : goal.returns-then-count-ge-STAMP_LIMIT
+returns-then-count-ge-STAMP_LIMIT c =
     let bs = c.args.bytes.now in
     let word = word_read bs c.args.k c.read-count.result (omega arith) c.read-count.ensures in
     let law = take_full (words_of bs) c.args.k (omega (arith, length_words bs)) (omega arith) in

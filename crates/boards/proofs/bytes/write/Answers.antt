@@ -7,9 +7,9 @@ use Rattle.boards.proofs.bytes.write.Goals as goal
 pub returns : goal.returns
 returns c =
     let bs = c.args.bytes.now in
-    let vs = c.copy-from-slice.new.self in
+    let vs = c.copy_from_slice.new.self in
     let k = c.args.k in
-    let laid : vs ≡ eight_bytes c.args.v = c.copy-from-slice.ensures.after ∙ c.to-le-bytes.ensures in
+    let laid : vs ≡ eight_bytes c.args.v = c.copy_from_slice.ensures.after ∙ c.to_le_bytes.ensures in
     let eight : length vs ≡ 8 = ap length laid in
     let width : 8 * k + 8 - 8 * k ≡ 8 = omega arith in
     let word : value vs ≡ c.args.v = ap value laid ∙ value_eight_bytes c.args.v (omega arith) in

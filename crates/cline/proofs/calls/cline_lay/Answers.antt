@@ -11,6 +11,6 @@ returns c =
     let ps = c.args.trays.now in
     record {
       step = leaves_called is_open ws ps c.args.crew.now (λ k. lays ws ps k c.args.lanes c.args.cells c.args.start) c.core-core.result
-          c.core-core.ensures (sym c.if-not-is-fit.ensures) (ap not c.if-core.false) c.lay-over-result.ensures.step c.of-done.ensures c.of.ensures;
-      rest = c.lay-over-result.ensures.rest;
+          c.core-core.ensures (sym c.if-not-is_fit.ensures) (ap not c.if-core.false) c.lay_over-result.ensures.step c.of_done.ensures c.of.ensures;
+      rest = c.lay_over-result.ensures.rest;
     }

@@ -108,6 +108,6 @@ returns-in-CopyTray g c =
       read = read_by s a copy is ws 0 refl;
       board = words_by s a copy is ws ws refl;
       trays = trays_by s a copy is ps _
-          (c.copy-tray.ensures ∙ ap (λ i. copied ps i c.tray-in-CopyTray.result) c.tray.ensures ∙ ap (copied ps _) c.tray-in-CopyTray.ensures);
+          (c.copy_tray.ensures ∙ ap (λ i. copied ps i c.tray-in-CopyTray.result) c.tray.ensures ∙ ap (copied ps _) c.tray-in-CopyTray.ensures);
       stays = refl;
     }

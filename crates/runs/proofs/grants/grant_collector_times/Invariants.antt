@@ -6,5 +6,5 @@ use Rattle.runs.proofs.grants.grant_collector_times.Given as goal
 -- the grants that are left do what all of them do from the start
 abbrev pub invariant-loop-made : goal.invariant-loop-made
 invariant-loop-made g l =
-    repeated grants_collector (l.times - l.-made) (g.B.Board.words l.board) l.trays (g.C.AnyCrew.core l.crew)
+    repeated grants_collector (l.times - l._made) (g.B.Board.words l.board) l.trays (g.C.AnyCrew.core l.crew)
     ≡ repeated grants_collector l.times (g.B.Board.words l.initial.board) l.initial.trays (g.C.AnyCrew.core l.initial.crew)

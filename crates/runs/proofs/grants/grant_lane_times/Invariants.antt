@@ -6,5 +6,5 @@ use Rattle.runs.proofs.grants.grant_lane_times.Given as goal
 -- the grants that are left do what all of them do from the start
 abbrev pub invariant-loop-made : goal.invariant-loop-made
 invariant-loop-made g l =
-    repeated (λ ws ps c. grants_lane ws ps c l.lane) (l.times - l.-made) (g.B.Board.words l.board) l.trays (g.C.AnyCrew.core l.crew)
+    repeated (λ ws ps c. grants_lane ws ps c l.lane) (l.times - l._made) (g.B.Board.words l.board) l.trays (g.C.AnyCrew.core l.crew)
     ≡ repeated (λ ws ps c. grants_lane ws ps c l.lane) l.times (g.B.Board.words l.initial.board) l.initial.trays (g.C.AnyCrew.core l.initial.crew)

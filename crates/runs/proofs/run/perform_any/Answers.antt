@@ -11,27 +11,27 @@ use Rattle.runs.proofs.run.perform_any.Goals as goal
 pub returns-in-GrantLane : goal.returns-in-GrantLane
 returns-in-GrantLane g c =
     let call = GrantLane c.in-GrantLane.lane c.in-GrantLane.times in
-    let did = c.grant-lane-times-result.ensures in
+    let did = c.grant_lane_times-result.ensures in
     record {
-      step = answers_same any_performed any_says c.args.call call _ _ _ _ _ _ _ c.in-GrantLane.is (answers_given _ (any_says call) (told_lane c.grant-lane-times-result.result) _ _ _ did);
+      step = answers_same any_performed any_says c.args.call call _ _ _ _ _ _ _ c.in-GrantLane.is (answers_given _ (any_says call) (told_lane c.grant_lane_times-result.result) _ _ _ did);
       ready = granted_ready c.args.held _ _ _ _ _ _ c.requires (λ ws ps k. grants_lane ws ps k c.in-GrantLane.lane) c.in-GrantLane.times _ (grants_lane_ready c.args.held c.in-GrantLane.lane) did;
     }
 
 pub returns-in-BeginCollect : goal.returns-in-BeginCollect
 returns-in-BeginCollect g c =
     let core = g.C.AnyCrew.core c.args.crew.now in
-    let did = c.begin-collect-result.ensures.step in
+    let did = c.begin_collect-result.ensures.step in
     record {
-      step = answers_same any_performed any_says c.args.call BeginCollect _ _ _ _ _ _ _ c.in-BeginCollect.is (answers_alone (begins_collect core) (any_says BeginCollect) (told_done c.begin-collect-result.result.0) _ _ _ did);
-      ready = ready_crew _ _ _ (begins_collect core).crew _ did.crew (begins_collect_ready c.args.held _ _ _ core c.requires (c.begin-collect-result.ensures.receipt ∙ ap (λ k. begun k.collector.stage) did.crew));
+      step = answers_same any_performed any_says c.args.call BeginCollect _ _ _ _ _ _ _ c.in-BeginCollect.is (answers_alone (begins_collect core) (any_says BeginCollect) (told_done c.begin_collect-result.result.0) _ _ _ did);
+      ready = ready_crew _ _ _ (begins_collect core).crew _ did.crew (begins_collect_ready c.args.held _ _ _ core c.requires (c.begin_collect-result.ensures.receipt ∙ ap (λ k. begun k.collector.stage) did.crew));
     }
 
 pub returns-in-GrantCollector : goal.returns-in-GrantCollector
 returns-in-GrantCollector g c =
     let call = GrantCollector c.in-GrantCollector.times in
-    let did = c.grant-collector-times-result.ensures in
+    let did = c.grant_collector_times-result.ensures in
     record {
-      step = answers_same any_performed any_says c.args.call call _ _ _ _ _ _ _ c.in-GrantCollector.is (answers_given _ (any_says call) (told_collector c.grant-collector-times-result.result) _ _ _ did);
+      step = answers_same any_performed any_says c.args.call call _ _ _ _ _ _ _ c.in-GrantCollector.is (answers_given _ (any_says call) (told_collector c.grant_collector_times-result.result) _ _ _ did);
       ready = granted_ready c.args.held _ _ _ _ _ _ c.requires grants_collector c.in-GrantCollector.times _ (grants_collector_ready c.args.held) did;
     }
 

@@ -7,14 +7,14 @@ use Rattle.runs.proofs.run.run_draining.Goals as goal
 pub loop-call-preserved : goal.loop-call-preserved
 loop-call-preserved g c =
     let before = vec_items c.loop-call.answers in
-    let answer = c.perform-draining-answer.result.0 in
-    let pushed : map said (vec_items c.push-reserved.new.self) ≡ map said before ++ said answer ∷ [] = ap (map said) c.push-reserved.ensures.items ∙ map_push said before answer in (
+    let answer = c.perform_draining-answer.result.0 in
+    let pushed : map said (vec_items c.push_reserved.new.self) ≡ map said before ++ said answer ∷ [] = ap (map said) c.push_reserved.ensures.items ∙ map_push said before answer in (
       run_more draining_performed draining_says c.args.calls.now c.loop-call.call-index (map said before) _ _ _ _ (said answer) _ _ _ _
-          c.loop-call-test.true (get_or_default _ _ _ _ c.loop-call-test.true) pushed c.perform-draining-answer.ensures.step
+          c.loop-call-test.true (get_or_default _ _ _ _ c.loop-call-test.true) pushed c.perform_draining-answer.ensures.step
           ∙ c.loop-call.invariant.0,
-      c.perform-draining-answer.ensures.ready,
-      omega (arith, c.push-reserved.ensures.len, c.loop-call.invariant.2),
-      omega (arith, c.push-reserved.ensures.capacity, c.loop-call.invariant.3),
+      c.perform_draining-answer.ensures.ready,
+      omega (arith, c.push_reserved.ensures.len, c.loop-call.invariant.2),
+      omega (arith, c.push_reserved.ensures.capacity, c.loop-call.invariant.3),
     )
 
 pub returns : goal.returns

@@ -7,14 +7,14 @@ use Rattle.runs.proofs.run.run_open.Goals as goal
 pub loop-call-preserved : goal.loop-call-preserved
 loop-call-preserved g c =
     let before = vec_items c.loop-call.answers in
-    let answer = c.perform-open-answer.result.0 in
-    let pushed : map said (vec_items c.push-reserved.new.self) ≡ map said before ++ said answer ∷ [] = ap (map said) c.push-reserved.ensures.items ∙ map_push said before answer in (
+    let answer = c.perform_open-answer.result.0 in
+    let pushed : map said (vec_items c.push_reserved.new.self) ≡ map said before ++ said answer ∷ [] = ap (map said) c.push_reserved.ensures.items ∙ map_push said before answer in (
       run_more open_performed open_says c.args.calls.now c.loop-call.call-index (map said before) _ _ _ c.call-item.result (said answer) _ _ _ _
-          c.loop-call-test.true c.call-item.is pushed c.perform-open-answer.ensures.step
+          c.loop-call-test.true c.call-item.is pushed c.perform_open-answer.ensures.step
           ∙ c.loop-call.invariant.0,
-      c.perform-open-answer.ensures.ready,
-      omega (arith, c.push-reserved.ensures.len, c.loop-call.invariant.2),
-      omega (arith, c.push-reserved.ensures.capacity, c.loop-call.invariant.3),
+      c.perform_open-answer.ensures.ready,
+      omega (arith, c.push_reserved.ensures.len, c.loop-call.invariant.2),
+      omega (arith, c.push_reserved.ensures.capacity, c.loop-call.invariant.3),
     )
 
 pub returns : goal.returns

@@ -8,7 +8,7 @@ use Rattle.runs.proofs.whole.run_calls.Goals as goal
 pub returns-in-None : goal.returns-in-None
 returns-in-None g c =
     record {
-      run = simp c.in-None.is c.run-undrained.ensures;
+      run = simp c.in-None.is c.run_undrained.ensures;
       promise = every_list_of_calls_keeps_the_promise g.row.P.Denot;
       kept = these_calls_keep_the_promise (g.B.Board.words c.args.board.now) c.args.trays.now c.args.laying c.args.before.now (option_map vec_items c.args.after.now);
       same = λ s later. reach_the_same s c.args.before.now later;

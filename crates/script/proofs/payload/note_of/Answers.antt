@@ -2,6 +2,6 @@ use Rattle.std.proofs.Common.{sym}
 use Rattle.script.proofs.Floats.{measured}
 use Rattle.script.proofs.payload.note_of.Goals as goal
 
-pub float-from-bits-value : goal.float-from-bits-value
-float-from-bits-value c =
-    measured c.args.tag c.args.bits (sym c.if-not-allowed-reading.ensures) c.if-tag-eq4.false
+pub float_from_bits-value : goal.float_from_bits-value
+float_from_bits-value c =
+    measured c.args.tag c.args.bits (sym c.if-not-allowed_reading.ensures) c.if-tag-eq4.false

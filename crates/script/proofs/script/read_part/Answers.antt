@@ -8,10 +8,10 @@ use Rattle.script.proofs.script.read_part.Given as given
 use Rattle.script.proofs.script.read_part.Goals as goal
 
 -- a turn that reads a call
-turn : (g : given.Over) (c : goal.In-ok-push g) → (length c.in-Ok.behind.now < length c.loop-unread.unread.now) × ReadSoFar g.C.Call.item (vec_items c.push.new.self) c.args.at c.args.rest.now c.in-Ok.behind.now
+turn : (g : given.Over) (c : goal.In_ok-push-in-Call g) → (length c.in-Ok.behind.now < length c.loop-unread.unread.now) × ReadSoFar g.C.Call.item (vec_items c.push.new.self) c.args.at c.args.rest.now c.in-Ok.behind.now
 turn g c =
     one_more g.C.Call.item (vec_items c.loop-unread.calls) (vec_items c.push.new.self) c.in-Call.call c.args.at c.args.rest.now c.loop-unread.unread.now c.in-Ok.behind.now
-    (pushed {r = c.push.result} (c.in-Call.call ∷ []) refl c.in-ok-push.was c.push.ensures.items) (c.in-Ok.ensures.0 ∙ ap (λ i. Ok i) c.in-Call.is) c.in-Ok.ensures.1 c.loop-unread.invariant
+    (pushed {r = c.push.result} (c.in-Call.call ∷ []) refl c.in_ok-push-in-Call.was c.push.ensures.items) (c.in-Ok.ensures.0 ∙ ap (λ i. Ok i) c.in-Call.is) c.in-Ok.ensures.1 c.loop-unread.invariant
 
 pub loop-unread-smaller : goal.loop-unread-smaller
 loop-unread-smaller g c = (turn g c).0
@@ -25,8 +25,8 @@ drain g c =
     drained g.C.Call.item (vec_items c.loop-unread.calls) c.args.at c.args.rest.now c.loop-unread.unread.now c.in-Ok.behind.now
     (c.in-Ok.ensures.0 ∙ ap (λ i. Ok i) c.in-Drain.is) c.in-Ok.ensures.1 c.loop-unread.invariant
 
-pub overflow-sub-stop : goal.overflow-sub-stop
-overflow-sub-stop g c = (drain g c).0
+pub overflow_sub-stop : goal.overflow_sub-stop
+overflow_sub-stop g c = (drain g c).0
 
 pub returns-in-Drain : goal.returns-in-Drain
 returns-in-Drain g c = (drain g c).1

@@ -15,8 +15,8 @@ placed c =
     behind c.args.script.now c.in-Ok.rest.now c.args.at c.in-Ok.record c.if-at-script.false (read c)
     (c.in-Ok.ensures.1 ∙ ap rest_at (take_rest c.args.script.now c.args.at))
 
-pub overflow-sub-result : goal.overflow-sub-result
-overflow-sub-result c = (placed c).0
+pub overflow_sub-result : goal.overflow_sub-result
+overflow_sub-result c = (placed c).0
 
 pub returns-in-Ok : goal.returns-in-Ok
 returns-in-Ok c = (read c, (placed c).1)

@@ -15,6 +15,6 @@ returns-in-Open c =
 pub returns-in-Draining : goal.returns-in-Draining
 returns-in-Draining c =
     record {
-      step = gives_same (ap (λ held. grants_collector (words_of c.args.bytes.now) c.args.trays.now (core_held held)) c.in-Draining.is) c.grant-collector-in-Draining.ensures.step;
-      rest = c.grant-collector-in-Draining.ensures.rest;
+      step = gives_same (ap (λ held. grants_collector (words_of c.args.bytes.now) c.args.trays.now (core_held held)) c.in-Draining.is) c.grant_collector-in-Draining.ensures.step;
+      rest = c.grant_collector-in-Draining.ensures.rest;
     }

@@ -15,6 +15,6 @@ returns-in-Open c =
 pub returns-in-Draining : goal.returns-in-Draining
 returns-in-Draining c =
     record {
-      step = gives_same (ap (λ held. grants_lane (words_of c.args.bytes.now) c.args.trays.now (core_held held) c.args.lane) c.in-Draining.is) c.grant-lane-in-Draining.ensures.step;
-      rest = c.grant-lane-in-Draining.ensures.rest;
+      step = gives_same (ap (λ held. grants_lane (words_of c.args.bytes.now) c.args.trays.now (core_held held) c.args.lane) c.in-Draining.is) c.grant_lane-in-Draining.ensures.step;
+      rest = c.grant_lane-in-Draining.ensures.rest;
     }

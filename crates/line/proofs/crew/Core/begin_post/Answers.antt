@@ -14,8 +14,8 @@ returns-then-shape-eq0 g c =
     let crew = c.args.self.now in
     record { step = λ ws. post_refused ws ps crew c.args.lane c.args.payload 0 (le-ltb 0 crew.shape.lanes (omega arith)); keeps = kept crew }
 
-pub returns-then-trays-trays-needed : goal.returns-then-trays-trays-needed
-returns-then-trays-trays-needed g c =
+pub returns-then-trays-trays_needed : goal.returns-then-trays-trays_needed
+returns-then-trays-trays_needed g c =
     let ps = c.args.trays.now in
     let crew = c.args.self.now in
     record {
@@ -34,8 +34,8 @@ returns-then-lane-from g c =
       keeps = kept crew;
     }
 
-pub returns-in-default : goal.returns-in-default
-returns-in-default g c =
+pub returns-in_default : goal.returns-in_default
+returns-in_default g c =
     let ps = c.args.trays.now in
     let crew = c.args.self.now in
     let lane = c.args.lane in

@@ -21,8 +21,8 @@ returns-then-lanes-lt1 g c =
       «open» = λ h. h;
     }
 
-pub returns-then-is-begun : goal.returns-then-is-begun
-returns-then-is-begun g c =
+pub returns-then-is_begun : goal.returns-then-is_begun
+returns-then-is_begun g c =
     let ws = g.B.Board.words c.args.board.now in
     let ps = c.args.trays.now in
     let crew = c.args.self.now in
@@ -30,23 +30,23 @@ returns-then-is-begun g c =
     let k = c.args.cells in
     record {
       step = laying_refused ws ps crew n k c.args.start 2
-          (shape_passes n k (omega arith) (omega arith) (omega arith) (omega arith), (le-leb c.args.start stamp_limit (omega arith), sym (ap not c.if-is-begun.ensures)));
+          (shape_passes n k (omega arith) (omega arith) (omega arith) (omega arith), (le-leb c.args.start stamp_limit (omega arith), sym (ap not c.if-is_begun.ensures)));
       stays = refl;
       within = λ h. h;
       «open» = λ h. h;
     }
 
-pub returns-then-not-held-by : goal.returns-then-not-held-by
-returns-then-not-held-by g c =
+pub returns-then-not-held_by : goal.returns-then-not-held_by
+returns-then-not-held_by g c =
     let ws = g.B.Board.words c.args.board.now in
     let ps = c.args.trays.now in
     let crew = c.args.self.now in
     let n = c.args.lanes in
     let k = c.args.cells in
-    let small = memory_told ws ps crew (shape n k) c.len.result false c.len.ensures c.if-not-held-by.ensures in
+    let small = memory_told ws ps crew (shape n k) c.len.result false c.len.ensures c.if-not-held_by.ensures in
     record {
       step = laying_refused ws ps crew n k c.args.start 3
-          (shape_passes n k (omega arith) (omega arith) (omega arith) (omega arith), (le-leb c.args.start stamp_limit (omega arith), (sym (ap not c.if-is-begun.ensures), small)));
+          (shape_passes n k (omega arith) (omega arith) (omega arith) (omega arith), (le-leb c.args.start stamp_limit (omega arith), (sym (ap not c.if-is_begun.ensures), small)));
       stays = refl;
       within = λ h. h;
       «open» = λ h. h;
@@ -59,15 +59,15 @@ returns g c =
     let crew = c.args.self.now in
     let n = c.args.lanes in
     let k = c.args.cells in
-    let holds = memory_told ws ps crew (shape n k) c.len.result true c.len.ensures c.if-not-held-by.ensures in
+    let holds = memory_told ws ps crew (shape n k) c.len.result true c.len.ensures c.if-not-held_by.ensures in
     let lanes-are = ap (λ x. x.shape.lanes) c.resting.ensures in
     let cells_are = ap (λ x. x.shape.cells) c.resting.ensures in
     record {
       step = gives_same
           (passed (refuse ws ps crew) (laying_tests ws ps crew n k c.args.start) _
-          (shape_passes n k (omega arith) (omega arith) (omega arith) (omega arith), (le-leb c.args.start stamp_limit (omega arith), (sym (ap not c.if-is-begun.ensures), (holds, tt)))))
-          (record { answer = refl; board = c.lay-words.ensures.after; trays = refl; crew = c.resting.ensures });
-      stays = c.lay-words.ensures.stays;
+          (shape_passes n k (omega arith) (omega arith) (omega arith) (omega arith), (le-leb c.args.start stamp_limit (omega arith), (sym (ap not c.if-is_begun.ensures), (holds, tt)))))
+          (record { answer = refl; board = c.lay_words.ensures.after; trays = refl; crew = c.resting.ensures });
+      stays = c.lay_words.ensures.stays;
       within = λ _. (omega arith, λ _. omega arith);
       «open» = λ _. ap (λ x. x.draining) c.resting.ensures;
     }
