@@ -1,9 +1,11 @@
 #!/usr/bin/env python3
 """A model of the line, written from docs/RULES.md alone, and the lists of calls that `walks` is run on.
 
-    line_model.py generate STDIN STDOUT   write the lists of calls, and what they must answer
-    line_model.py verify STDIN STDOUT     compare both files with what the model says; status 1 if they differ
-    line_model.py selftest                test the model itself, against the rules' own consequences
+    line_model.py generate [--reports] STDIN STDOUT   write the lists of calls, and what they must answer
+    line_model.py verify [--reports] STDIN STDOUT     compare both files with what the model says; status 1 if they differ
+    line_model.py selftest                            test the model itself, against the rules' own consequences
+
+With --reports the lists are others, and have reports among their calls.
 
 The lists. A list begins with `line WORDS TRAYS`, ends with `end`, and has one call on each line between:
 
@@ -335,10 +337,10 @@ class Tally:
         if ending.kind == "delivered" and ending.tries == 2:
             self.note("delivered with a second try")
 
-    def missing(self):
+    def missing(self, reports):
         wanted = [f"refused {k}" for k in range(1, 13) if k not in (8, 9)]
         wanted += ["posted", "full", "used up", "empty", "delivered", "posted with grant 13", "delivered with a second try"]
-        wanted += ["report", "report refused 4", "report refused 13"]
+        wanted += ["report", "report refused 4", "report refused 13"] if reports else []
         return [what for what in wanted if what not in self.seen]
 
     def __str__(self):
@@ -479,8 +481,7 @@ class Dice:
         return items[self.roll(0, len(items) - 1)]
 
 
-# The worked cases: lone posts, a full lane, a scan that is overtaken, used-up stamps, second tries, sizes that just do, a crew
-# never laid, and reports too early and in time.
+# The worked cases: lone posts, a full lane, a scan that is overtaken, used-up stamps, second tries, and sizes that just do.
 WORKED = """
 line 11 7 | lay 2 2 0 | post 0 50 | grant 0 13 | post 0 51 | grant 0 13 | fill 0 | end
 line 11 7 | lay 2 2 0 | collect | gc 1 | post 0 60 | grant 0 13 | post 1 61 | grant 1 13 | gc 13 | settle | see 2 | end
@@ -490,6 +491,13 @@ line 7 5 | lay 1 3 0 | post 0 80 | grant 0 13 | collect | gc 4 | post 0 81 | gra
 line 7 5 | lay 1 3 0 | post 0 90 | grant 0 13 | post 0 91 | grant 0 6 | collect | gc 13 | settle | grant 0 6 | collect | gc 13 | settle | grant 0 13 | end
 line 1073 1041 | short 10 7 lay 2 2 0 | short 11 6 lay 2 2 0 | lay 2 1 0 | lay 2 65 0 | lay 16 64 0 | fill 15 | fill 16 | lay 2 2 0 | end
 line 6 4 | fill 0 | collect | settle | gc 1 | post 0 1 | grant 0 1 | lay 1 2 0 | post 0 1 | grant 0 13 | collect | gc 11 | settle | drain | collect | gc 1 | end
+"""
+
+# A crew never laid.
+WORKED_NEVER_LAID = "line 6 4 | drain | fill 0 | collect | grant 0 2 | gc 2 | settle | end"
+
+# The same with a report, and reports too early and in time.
+WORKED_REPORTS = """
 line 6 4 | drain | fill 0 | collect | grant 0 2 | gc 2 | settle | report | end
 line 6 4 | lay 1 2 0 | post 0 1 | drain | report | grant 0 13 | report | collect | report | gc 11 | report | settle | report | report | end
 """
@@ -523,8 +531,8 @@ BAD_STARTS = [STAMP_END + 1, 2**63, E]
 class Author:
     """Writes one list: it performs what it writes, so that it knows what comes of the next call."""
 
-    def __init__(self, style, dice, tally):
-        self.style, self.dice = style, dice
+    def __init__(self, style, dice, tally, reports=True):
+        self.style, self.dice, self.reports = style, dice, reports
         self.n = dice.roll(*style.lanes)
         self.cells = dice.roll(*style.cells)
         need_map = Map(self.n, self.cells)
@@ -560,11 +568,7 @@ class Author:
         if dice.chance(self.style.odd):
             for _ in range(dice.roll(1, 6)):
                 self.odd_call()
-        drain_at = self.style.calls * dice.roll(50, 140) // 100
-        if crew.map is None and dice.chance(self.style.odd // 4):
-            drain_at = 0
-        else:
-            self.write(f"lay {self.n} {self.cells} {self.start()}")
+        drain_at = self.lay_and_drain_at()
         for at in range(self.style.calls):
             if at == drain_at:
                 self.write("drain")
@@ -572,7 +576,7 @@ class Author:
                 self.odd_call()
             else:
                 self.plain_call()
-        if crew.draining and dice.chance(60):
+        if self.reports and crew.draining and dice.chance(60):
             self.wind_up()
         if dice.chance(50) and crew.map:
             for lane in range(min(self.n, 4)):
@@ -596,7 +600,7 @@ class Author:
             choices += ["settle"] * 3
         else:
             choices += ["gc"] * 5
-        if crew.draining:
+        if self.reports and crew.draining:
             choices += ["report"]
         choices += ["fill"] if dice.chance(30) else []
         name = dice.pick(choices)
@@ -651,6 +655,18 @@ class Author:
         else:
             self.short_call(kind.split()[1], lane)
 
+    def lay_and_drain_at(self):
+        """Lays the line, and says at which call the crew drains; where reports are made, a line may be drained and never laid."""
+        dice = self.dice
+        if not self.reports:
+            self.write(f"lay {self.n} {self.cells} {self.start()}")
+            return self.style.calls * dice.roll(50, 140) // 100
+        drain_at = self.style.calls * dice.roll(50, 140) // 100
+        if self.walk.crew.map is None and dice.chance(self.style.odd // 4):
+            return 0
+        self.write(f"lay {self.n} {self.cells} {self.start()}")
+        return drain_at
+
     def wind_up(self):
         """Ends what is under way on a draining crew, collects what is left, and reports."""
         crew = self.walk.crew
@@ -692,17 +708,18 @@ class Author:
         self.write(f"short {words} {trays} {name} {rest}")
 
 
-def generated(tally):
+def generated(tally, reports):
     """The lists of calls and their answers."""
     lines, out = [], []
-    worked = [call.strip() for line in WORKED.strip().splitlines() for call in line.split("|")]
+    cases = WORKED + (WORKED_REPORTS if reports else WORKED_NEVER_LAID)
+    worked = [call.strip() for line in cases.split("\n") if line for call in line.split("|")]
     lines += worked
     out += answers(worked, tally)
     key = 0
     for style, count in STYLES:
         for _ in range(count):
             key += 1
-            author = Author(style, Dice(key), tally)
+            author = Author(style, Dice(key), tally, reports)
             author.list()
             lines += author.lines
             out += author.out
@@ -732,24 +749,24 @@ def differing(what, stored, expected):
     return None
 
 
-def generate(stdin, stdout):
+def generate(stdin, stdout, reports):
     tally = Tally()
-    lines, out = generated(tally)
+    lines, out = generated(tally, reports)
     write_lines(stdin, lines)
     write_lines(stdout, out)
     print(tally)
     return 0
 
 
-def verify(stdin, stdout):
+def verify(stdin, stdout, reports):
     stored = file_lines(stdin)
     tally = Tally()
-    made, _ = generated(Tally())
+    made, _ = generated(Tally(), reports)
     faults = [differing(stdin, stored, made), differing(stdout, file_lines(stdout), answers(stored, tally))]
     if tally.lists < 200 or tally.grants < 50_000:
         faults.append("fewer than 200 lists or 50,000 grants")
-    if tally.missing():
-        faults.append("never answered: " + ", ".join(tally.missing()))
+    if tally.missing(reports):
+        faults.append("never answered: " + ", ".join(tally.missing(reports)))
     faults = [fault for fault in faults if fault]
     for fault in faults:
         print(fault, file=sys.stderr)
@@ -893,19 +910,21 @@ def selftest():
     plain = Walk
     Walk = Watched
     tally = Tally()
-    generated(tally)
+    generated(tally, True)
     Walk = plain
-    assert not tally.missing(), tally.missing()
+    assert not tally.missing(True), tally.missing(True)
     print(f"the model holds its rules over {tally.lists} lists and {tally.grants} grants")
     return 0
 
 
 def main(args):
-    if len(args) == 3 and args[0] in ("generate", "verify"):
-        return {"generate": generate, "verify": verify}[args[0]](args[1], args[2])
+    reports = args[1:2] == ["--reports"]
+    paths = args[2:] if reports else args[1:]
+    if len(paths) == 2 and args[0] in ("generate", "verify"):
+        return {"generate": generate, "verify": verify}[args[0]](*paths, reports)
     if args == ["selftest"]:
         return selftest()
-    print("line_model.py generate STDIN STDOUT | verify STDIN STDOUT | selftest", file=sys.stderr)
+    print("line_model.py generate [--reports] STDIN STDOUT | verify [--reports] STDIN STDOUT | selftest", file=sys.stderr)
     return 1
 
 

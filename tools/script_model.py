@@ -355,10 +355,10 @@ def worked_scripts():
 
 
 def example():
-    """The script and the lines that stand in docs/SCRIPT.md."""
+    """The script and the lines that stand in docs/SCRIPT.md, ahead of the same in words."""
     path = os.path.join(os.path.dirname(os.path.abspath(__file__)), "..", "docs", "SCRIPT.md")
     with open(path, encoding="utf-8") as file:
-        dump, lines = re.findall(r"```\n(.*?)```", file.read().split("## An example")[1], re.DOTALL)
+        dump, lines, _in_words = re.findall(r"```\n(.*?)```", file.read().split("## An example")[1], re.DOTALL)
     rows = [re.match(r"(?:[0-9a-f]{2} {1,2})+", row) for row in (row + " " for row in dump.splitlines())]
     return bytes.fromhex("".join(row.group() for row in rows if row)), lines.splitlines()
 

@@ -35,14 +35,14 @@ impl Board for ByteBoard<'_> {
 
     fn len(&self) -> usize
         ensures answer { result ≡ length (words_of self.now.bytes.now) }
-        ensures same { self.now.bytes.now ≡ self.now.bytes.now }
+        ensures same { self.exit.now.bytes.now ≡ self.entry.now.bytes.now }
     {
         self.bytes.len() / WORD_BYTES
     }
 
     fn load(&self, k: usize) -> u64
         ensures answer { result ≡ loaded (words_of self.now.bytes.now) k }
-        ensures same { self.now.bytes.now ≡ self.now.bytes.now }
+        ensures same { self.exit.now.bytes.now ≡ self.entry.now.bytes.now }
     {
         load_word(self.bytes, k)
     }

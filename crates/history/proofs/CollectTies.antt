@@ -1,5 +1,5 @@
 -- The collector's calls meet their guards and keep the ties between the model and the book.
-use Rattle.std.proofs.Common.{◌≡◌, ℕ, suc, ◌-◌, ◌<◌, ◌≢◌, ◌⊎◌, List, [], ◌∷◌, length, sym, refl, ap, ◌∙◌, subst, inl, inr, arith}
+use Rattle.std.proofs.Common.{◌≡◌, ℕ, suc, ◌<◌, ◌≢◌, ◌⊎◌, List, [], ◌∷◌, length, sym, refl, ap, ◌∙◌, subst, inl, inr, arith}
 use mathlib.Core.Option.{some}
 use Rattle.std.proofs.lemmas.Bool.{ne_eqb, eq-eqb, cases_lt}
 use Rattle.line.specs.declared.lane.Attempt.TheVariants.{First}
@@ -15,7 +15,7 @@ use Rattle.order.specs.Tables.{upd}
 use Rattle.history.proofs.Slot.{wanted}
 use Rattle.history.proofs.Slot.View.{kept}
 use Rattle.history.proofs.Lanes.{Ends, LaneOk, Own, StageOk, front, waits}
-use Rattle.history.proofs.Model.{After, LineModel, ModelOk, Progress, begun_collect, freeing, moved, slotting, rest_of, view}
+use Rattle.history.proofs.Model.{After, LineModel, ModelOk, Progress, begun_collect, freeing, moved, slotting, rest_of}
 use Rattle.history.proofs.Model.Progress.{rest, frees, looking}
 use Rattle.history.proofs.Goods.{Carries, CollectTie, Fits, Goods, Gone, Holding, LaneTie, Looking, Match, Past, PostTie, Stamped, Tied}
 use Rattle.history.proofs.Matching.{match_after}

@@ -1,5 +1,5 @@
 -- A line just laid: its words, its crew, and the model that they mirror.
-use Rattle.std.proofs.Common.{◌≡◌, ℕ, suc, ◌+◌, ◌-◌, ◌*◌, ◌<◌, ◌≤◌, ◌&&◌, leb, List, [], ◌++◌, length, get_or, drop, replicate, sym, refl, ap, ◌∙◌, arith}
+use Rattle.std.proofs.Common.{◌≡◌, ℕ, suc, ◌+◌, ◌*◌, ◌<◌, ◌≤◌, ◌&&◌, leb, List, [], ◌++◌, length, get_or, drop, replicate, sym, refl, ap, ◌∙◌, arith}
 use native.Mathlib.Nat.{zero-mod}
 use mathlib.Core.Option.{none}
 use Rattle.std.proofs.lemmas.List.{get_or_append_left, get_or-append_right, get_or-replicate, length-append, length-replicate}

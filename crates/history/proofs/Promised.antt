@@ -1,5 +1,5 @@
 -- Every list of calls keeps the promise: call by call, from the laying on.
-use Rattle.std.proofs.Common.{◌≡◌, ℕ, ◌+◌, ◌-◌, List, [], ◌∷◌, ◌++◌, subst, arith}
+use Rattle.std.proofs.Common.{◌≡◌, ℕ, List, [], ◌∷◌, ◌++◌, subst, arith}
 use Rattle.line.specs.declared.crew.Core.{Core}
 use Rattle.line.specs.Calls.{lays, begins_collect}
 use Rattle.line.specs.Crew.{row_of}

@@ -17,7 +17,6 @@ use Rattle.order.specs.Events.{CollectEnd, Event, PostEnd}
 use Rattle.order.specs.Events.PostEnd.{as_full, as_used_up}
 use Rattle.order.specs.Events.Event.{began_collect, began_post, ended_collect, ended_post, freed, quiet, reported, stepped_collector, stepped_lane, took}
 use Rattle.order.specs.Logs.{Collecting, Log, Posting, log_collect_end, log_post_end, log_step}
-use Rattle.order.specs.Logs.Operation.{collect}
 use Rattle.order.specs.Books.{Book, Waiting, book_step}
 use Rattle.order.specs.Books.Collect.{at_rest}
 use Rattle.order.specs.Books.Post.{idle}

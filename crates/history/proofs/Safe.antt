@@ -1,6 +1,6 @@
 -- What holds of a line after every list of calls: its state mirrors a model that keeps the lanes' invariant, that the book is tied
 -- to, and whose ledger is kept.
-use Rattle.std.proofs.Common.{◌≡◌, ℕ, ◌-◌, Bool, List, [], ◌∷◌, refl, ◌∙◌}
+use Rattle.std.proofs.Common.{◌≡◌, ℕ, Bool, List, [], ◌∷◌, refl, ◌∙◌}
 use Rattle.std.specs.List.{AllByRecursion as All}
 use Rattle.std.proofs.lemmas.Bool.{cond_both}
 use Rattle.line.specs.Calls.{tested}

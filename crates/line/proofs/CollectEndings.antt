@@ -8,7 +8,6 @@ use Rattle.line.specs.declared.answer.CollectorAnswer.TheVariants.{On, Ended as 
 use Rattle.line.specs.declared.collector.Collected.TheVariants.{Empty, Delivered}
 use Rattle.line.specs.declared.collector.CollectNext.{CollectNext}
 use Rattle.line.specs.declared.collector.CollectNext.TheVariants.{Goes, EndsEmpty, EndsDelivered}
-use Rattle.line.specs.declared.collector.CollectStage.{CollectStage}
 use Rattle.line.specs.declared.collector.CollectStage.TheVariants.{ScanFirst, ScanSecond, Fetch, Free, SeeSlot, SeeTail, SeeFront, RefreshSlot}
 use Rattle.line.specs.declared.collector.Collector.{Collector}
 use Rattle.line.specs.declared.collector.Kept.{Kept}

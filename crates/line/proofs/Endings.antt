@@ -1,5 +1,5 @@
 -- A post ends by its thirteenth grant: stage by stage, the last first.
-use Rattle.std.proofs.Common.{◌≡◌, ℕ, ◌+◌, ◌%◌, Bool, cond, eqb, refl}
+use Rattle.std.proofs.Common.{ℕ, ◌+◌, ◌%◌, Bool, cond, eqb, refl}
 use Rattle.boards.specs.Words.{stamp_limit}
 use Rattle.std.proofs.lemmas.Bool.{cond_both}
 use Rattle.line.specs.declared.lane.Attempt.TheVariants.{First, Second}
@@ -7,7 +7,7 @@ use Rattle.line.specs.declared.lane.LaneRow.{LaneRow}
 use Rattle.line.specs.declared.lane.Next.{Next}
 use Rattle.line.specs.declared.lane.Next.TheVariants.{Goes, EndsPosted, EndsFull, EndsUsedUp}
 use Rattle.line.specs.declared.lane.Stage.{Stage}
-use Rattle.line.specs.declared.lane.Stage.TheVariants.{TestSpace, TakeStamp, FillCell, MarkCell, Publish, Look, LoadHead, LoadFront, SwapSlot}
+use Rattle.line.specs.declared.lane.Stage.TheVariants.{TestSpace, TakeStamp, FillCell, Look, LoadHead, LoadFront, SwapSlot}
 use Rattle.line.specs.Laws.{EndsOrGoesOn, EndsWithin, EachPostEndsByItsThirteenthGrant}
 use Rattle.line.specs.Post.{answer_at, row_at}
 

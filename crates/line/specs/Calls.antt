@@ -3,7 +3,7 @@
 -- Outcome      what a call tells, and the words, trays and crew that it leaves
 -- CrewOutcome  the same of a call that is given neither board nor trays
 -- tested       a call's tests in their fixed order: the first that fails refuses by its number and everything stays
-use Rattle.std.specs.Prelude.{◌≡◌, ℕ, zero, suc, ◌+◌, ◌*◌, Bool, true, false, cond, not, ◌&&◌, List, [], ◌∷◌, ◌++◌, length, drop, replicate, ◌==◌, nat_le, nat_lt, slice_set}
+use Rattle.std.specs.Prelude.{◌≡◌, ℕ, zero, suc, ◌+◌, ◌*◌, Bool, true, cond, not, ◌&&◌, List, [], ◌∷◌, ◌++◌, length, drop, replicate, ◌==◌, nat_le, nat_lt, slice_set}
 use Rattle.boards.specs.Words.{empty_word, stamp_limit}
 use Rattle.line.specs.declared.access.Access.{Access}
 use Rattle.line.specs.declared.access.Place.TheVariants.{Hand}

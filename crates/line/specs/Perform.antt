@@ -2,7 +2,7 @@
 --
 -- The board's own effects are those of its crate. A swap answers 1 for yes and 0 for no; a store, a copy and no access
 -- answer 0. A copy from or to a tray that is not there changes nothing.
-use Rattle.std.specs.Prelude.{ℕ, Bool, true, false, cond, List, [], ◌∷◌, drop, slice_set}
+use Rattle.std.specs.Prelude.{ℕ, cond, List, [], ◌∷◌, drop, slice_set}
 use Rattle.boards.specs.Words.{loaded, stored, swaps, swapped, taken, raised}
 use Rattle.line.specs.declared.access.Shape.{Shape}
 use Rattle.line.specs.declared.access.Access.{Access}

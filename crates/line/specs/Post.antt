@@ -3,7 +3,7 @@
 -- row          a lane as the crew keeps it: cells, tail copy, stage of its post, grants the post has had
 -- own stamp    the stamp that the post took from the counter
 -- attempt      the slot is told of the frame in at most two tries of four grants each
-use Rattle.std.specs.Prelude.{ℕ, ◌+◌, ◌-◌, ◌%◌, ◌^◌, min, Bool, true, false, cond, ◌&&◌, ◌==◌, nat_le, nat_lt}
+use Rattle.std.specs.Prelude.{ℕ, ◌+◌, ◌-◌, ◌%◌, ◌^◌, min, Bool, cond, ◌&&◌, ◌==◌, nat_le, nat_lt}
 use Rattle.boards.specs.Words.{stamp_limit}
 use Rattle.line.specs.declared.access.Address.TheVariants.{Counter, Slot, Head, Tail, CellStamp}
 use Rattle.line.specs.declared.access.Place.TheVariants.{Hand, Cell}

@@ -5,7 +5,6 @@ use Rattle.std.proofs.lemmas.Bool.{cases_eq, cond-true, eq-eqb}
 use Rattle.order.specs.Tables.{upd}
 use Rattle.order.specs.SingleFile.{Frame}
 use Rattle.order.specs.Logs.{Collecting, Log, Posting, collect_step, post_step, start}
-use Rattle.order.specs.Logs.Operation.{collect}
 use Rattle.order.specs.Books.{Book, Collect, Post, blank}
 use Rattle.order.specs.Books.Post.{begun, gone, idle, stamped}
 use Rattle.order.specs.Books.Collect.{at_rest, holding, looking}

@@ -1,7 +1,6 @@
 -- How the numbers of frames posted and delivered grow: by one at the event that answers so, and at no other.
 use Rattle.std.proofs.Common.{◌≡◌, ℕ, ◌+◌, List, sym, subst, arith}
 use mathlib.Core.Option.{Option, none, some}
-use Rattle.order.specs.SingleFile.Did.{delivered, posted}
 use Rattle.order.specs.Events.{CollectEnd, Event, PostEnd}
 use Rattle.order.specs.Events.PostEnd.{as_full, as_posted, as_used_up}
 use Rattle.order.specs.Events.CollectEnd.{as_delivered, as_empty}

@@ -10,7 +10,6 @@ use Rattle.order.specs.SingleFile.{Frame, frame_of}
 use Rattle.order.specs.Events.{Event}
 use Rattle.order.specs.Events.PostEnd.{as_full, as_posted, as_used_up}
 use Rattle.order.specs.Events.Event.{began_collect, began_post, ended_collect, ended_post, freed, quiet, reported, stepped_collector, stepped_lane, took}
-use Rattle.order.specs.Logs.Operation.{collect}
 
 -- a frame that waits, with the times at which its post began, took its stamp and ended
 pub record Waiting (P : Type 0) : Type 0 where

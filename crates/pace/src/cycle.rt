@@ -7,6 +7,7 @@ use line::calls::AnyCrew;
 use line::collector::Collected;
 use line::crew::Crew;
 use line::receipt::Unspent;
+use std::mem::ManuallyDrop;
 
 /// More grants than a post, or a collect over sixteen lanes, can have.
 const MOST_GRANTS: usize = 42;
@@ -80,6 +81,6 @@ fn collect<B: Board>(
                 refusal: _,
                 receipt,
             },
-        ) => Err(Stop::Unsettled(receipt)),
+        ) => Err(Stop::Unsettled(unsafe { ManuallyDrop::new_unchecked(receipt) })),
     }
 }

@@ -2,7 +2,7 @@
 --
 -- core_of      what the crew keeps that the numbers mean
 -- plain_crew   the numbers of what a crew keeps
-use Rattle.std.specs.Prelude.{◌≡◌, ℕ, Bool, true, false, cond, not, map, ◌==◌}
+use Rattle.std.specs.Prelude.{◌≡◌, cond, not, map, ◌==◌}
 use Rattle.line.specs.Crew.{shape}
 use Rattle.line.specs.declared.crew.Core.{Core}
 use Rattle.plain_crew.specs.Collectors.{collector_of, plain_collector}

@@ -1,14 +1,13 @@
 -- A whole run, put together from the laying, the calls before and after the drain, and the closing.
-use Rattle.std.proofs.Common.{◌≡◌, ℕ, ◌+◌, ◌-◌, ◌*◌, ◌≤◌, Bool, true, false, ◌&&◌, leb, List, [], ◌∷◌, ◌++◌, length, drop, replicate, Some, None, Option, sym, refl, ap, ◌∙◌, subst, arith}
+use Rattle.std.proofs.Common.{◌≡◌, ℕ, ◌+◌, ◌*◌, ◌≤◌, false, leb, List, [], ◌++◌, length, drop, replicate, Some, None, Option, sym, refl, ap, ◌∙◌, subst, arith}
 use lib.ListN.{length-replicate}
 use Rattle.std.proofs.lemmas.List.{length-append, length-drop}
 use Rattle.std.proofs.lemmas.Bool.{and_from, and_parts, both_ways, le-leb, leb-true}
 use Rattle.boards.specs.Words.{empty_word}
 use Rattle.line.proofs.Tested.{gives_same}
 use Rattle.line.specs.Answers.{Told}
-use Rattle.line.specs.Calls.{Gives, Outcome, board_holds, drained, laid, laid_words, laying_tests, lays, refuse, trays_hold}
-use Rattle.line.specs.Collect.{begun}
-use Rattle.line.specs.Crew.{never_laid, resting_crew, shape}
+use Rattle.line.specs.Calls.{Gives, Outcome, board_holds, drained, laid_words, laying_tests, lays, refuse}
+use Rattle.line.specs.Crew.{never_laid, shape}
 use Rattle.line.specs.Map.{words_needed}
 use Rattle.line.specs.declared.crew.Core.{Core}
 use Rattle.line.specs.declared.receipt.Receipt.{Receipt}

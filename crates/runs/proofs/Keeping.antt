@@ -1,13 +1,12 @@
 -- What calls leave alone: lengths of board and trays, the shape, and of a lane's calls the collector.
-use Rattle.std.proofs.Common.{◌≡◌, ℕ, zero, suc, Bool, true, false, cond, ◌&&◌, List, [], ◌∷◌, length, drop, set, sym, refl, ap, ◌∙◌, arith, length-set}
+use Rattle.std.proofs.Common.{◌≡◌, ℕ, zero, suc, Bool, List, [], ◌∷◌, length, drop, refl, length-set}
 use Rattle.std.proofs.lemmas.Bool.{cond_both}
 use Rattle.boards.proofs.Effects.{swap_touches, take_touches}
 use Rattle.line.proofs.Tested.{Pass}
-use Rattle.line.specs.Answers.{Told}
-use Rattle.line.specs.Calls.{Outcome, begin_post_tests, begins_post, board_holds, grants_lane, lane_grant_tests, lane_steps, refuse, tested, trays_hold}
+use Rattle.line.specs.Calls.{Outcome, begin_post_tests, begins_post, grants_lane, lane_grant_tests, lane_steps, refuse, tested}
 use Rattle.line.specs.Crew.{row_of}
 use Rattle.line.specs.Map.{tray_of, word_of}
-use Rattle.line.specs.Perform.{copied, put_first, trays_after, words_after}
+use Rattle.line.specs.Perform.{put_first, trays_after, words_after}
 use Rattle.line.specs.Post.{lane_access}
 use Rattle.line.specs.declared.access.Access.{Access}
 use Rattle.line.specs.declared.access.Access.TheVariants.{Nothing, Load, Store, Swap, Take, CopyTray}

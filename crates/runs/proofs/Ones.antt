@@ -1,9 +1,9 @@
 -- The single calls of a run may all be made: they are given the line's own memory, and none of them lays a line.
-use Rattle.std.proofs.Common.{◌≡◌, ℕ, zero, suc, Bool, cond, List, [], ◌∷◌, ◌++◌, Some, None, Option, refl}
+use Rattle.std.proofs.Common.{ℕ, zero, suc, List, [], ◌∷◌, ◌++◌, Some, None, Option}
 use mathlib.Core.Option.{none}
 use Rattle.std.proofs.lemmas.Bool.{cond_both}
 use Rattle.history.proofs.Promised.{every_list_of_calls_keeps_the_promise}
-use Rattle.history.specs.Performing.{Done, DrainingCall as SingleDraining, OpenCall as SingleOpen, State, drain, draining_done, open_done, open_end}
+use Rattle.history.specs.Performing.{Done, DrainingCall as SingleDraining, OpenCall as SingleOpen, State, draining_done, open_done}
 use Rattle.history.specs.Promise.{DrainingCallAdmitted, DrainingCallsAdmitted, OpenCallAdmitted, OpenCallsAdmitted}
 use Rattle.line.specs.Crew.{never_laid}
 use Rattle.runs.specs.AtHand.{TheseCallsKeepThePromise, after_all, draining_ones, draining_singles, made_again, one_by_one, open_ones, open_singles}

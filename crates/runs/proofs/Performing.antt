@@ -1,5 +1,5 @@
 -- A call performed: its answer, what it left, and that the run is ready for the next.
-use Rattle.std.proofs.Common.{◌≡◌, ℕ, List, Option, sym, refl, ap, ◌∙◌, subst}
+use Rattle.std.proofs.Common.{◌≡◌, ℕ, List, Option, sym, refl, ap, subst}
 use Rattle.line.specs.Answers.{Told}
 use Rattle.line.specs.Calls.{CrewGives, CrewOutcome, Gives, Outcome}
 use Rattle.line.specs.declared.crew.Core.{Core}

@@ -1,5 +1,5 @@
 -- The single calls of a run reach what the run reaches.
-use Rattle.std.proofs.Common.{◌≡◌, ℕ, zero, suc, Bool, true, false, cond, List, [], ◌∷◌, ◌++◌, sym, refl, ap, ◌∙◌, ⊎_elim}
+use Rattle.std.proofs.Common.{◌≡◌, ℕ, zero, suc, List, [], ◌∷◌, ◌++◌, sym, refl, ap, ◌∙◌, ⊎_elim}
 use mathlib.Core.Option.{none}
 use Rattle.std.proofs.lemmas.Bool.{cases_Bool, cond-false, cond-true}
 use Rattle.history.specs.Performing.{Done, DrainingCall as SingleDraining, OpenCall as SingleOpen, State, drain, draining_done, open_done, open_end, state_of}
@@ -7,7 +7,7 @@ use Rattle.line.specs.Answers.{Told}
 use Rattle.line.specs.Calls.{Outcome, grants_collector, grants_lane}
 use Rattle.line.specs.declared.crew.Core.{Core}
 use Rattle.runs.specs.AtHand.{ReachTheSame, after_all, draining_singles, made_again, one_by_one, open_singles, state_left}
-use Rattle.runs.specs.Runs.{Ran, Said, draining_performed, draining_says, is_on, open_performed, open_says, repeated, runs_on}
+use Rattle.runs.specs.Runs.{Said, draining_performed, draining_says, is_on, open_performed, open_says, repeated, runs_on}
 use Rattle.runs.specs.declared.calls.CrewCall.TheVariants.{GrantLane, BeginCollect, GrantCollector, Settle}
 use Rattle.runs.specs.declared.calls.DrainingCall.{DrainingCall}
 use Rattle.runs.specs.declared.calls.DrainingCall.TheVariants.{Any as AnyDraining, Report}

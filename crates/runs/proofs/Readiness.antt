@@ -1,8 +1,8 @@
 -- A run stays ready for its next call.
-use Rattle.std.proofs.Common.{◌≡◌, ℕ, zero, suc, ◌+◌, ◌*◌, ◌%◌, ◌<◌, ◌≤◌, Bool, true, false, cond, ◌&&◌, eqb, ltb, leb, List, [], ◌∷◌, length, is_some, Option, sym, refl, ap, ◌∙◌, subst, arith}
+use Rattle.std.proofs.Common.{◌≡◌, ℕ, zero, suc, ◌+◌, ◌*◌, ◌%◌, ◌≤◌, Bool, true, false, cond, ◌&&◌, eqb, ltb, leb, List, length, is_some, Option, sym, refl, ap, ◌∙◌, subst, arith}
 use Rattle.std.proofs.lemmas.Bool.{both_ways, cond_both, ltb-true}
 use Rattle.line.proofs.CollectEndings.{each-collect-ends-by-grant-2n+9}
-use Rattle.line.specs.Calls.{Outcome, begin_collect_tests, begins_collect, begins_post, collector_grant_tests, collector_steps, grants_collector, grants_lane, laid, refuse, refuse_crew, settles, settles_at}
+use Rattle.line.specs.Calls.{begin_collect_tests, begins_collect, begins_post, collector_grant_tests, collector_steps, grants_collector, grants_lane, laid, refuse, refuse_crew, settles, settles_at}
 use Rattle.line.specs.Collect.{begun, better, collect_answer_at, collector_access, collector_at, collector_next, head_of, heads_after, under_way}
 use Rattle.line.specs.Laws.{CollectEndsOrGoesOn, CollectEndsWithin}
 use Rattle.line.specs.Map.{trays_needed, words_needed}
@@ -19,7 +19,7 @@ use Rattle.line.specs.declared.crew.Core.{Core}
 use Rattle.line.specs.declared.lane.Attempt.TheVariants.{First, Second}
 use Rattle.line.specs.declared.receipt.Receipt.{Receipt}
 use Rattle.runs.specs.Ready.{Ending, Ready}
-use Rattle.runs.proofs.Keeping.{Spares, begins_post_spares, grants_lane_spares, length_trays_after, length_words_after, repeated_keeps, tested_cases}
+use Rattle.runs.proofs.Keeping.{Spares, begins_post_spares, grants_lane_spares, length_trays_after, length_words_after, tested_cases}
 
 -- a collect under way is begun
 pub begun_under_way : (stage : CollectStage) → under_way stage ≡ true → begun stage ≡ true

@@ -1,5 +1,5 @@
 -- A grant made again and again, step by step.
-use Rattle.std.proofs.Common.{◌≡◌, ℕ, zero, suc, true, false, cond, List, [], sym, refl, ap, ◌∙◌}
+use Rattle.std.proofs.Common.{◌≡◌, ℕ, suc, true, false, List, [], sym, refl, ap, ◌∙◌}
 use Rattle.std.proofs.lemmas.Bool.{cond-true, cond-false}
 use Rattle.line.specs.Answers.{Told, told}
 use Rattle.line.specs.Calls.{Outcome, Gives}

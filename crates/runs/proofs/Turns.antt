@@ -1,9 +1,8 @@
 -- When a receipt is handed out, and when it is spent.
-use Rattle.std.proofs.Common.{◌≡◌, ℕ, Bool, true, false, cond, not, List, [], ◌∷◌, sym, refl, ap, ◌∙◌, arith}
+use Rattle.std.proofs.Common.{◌≡◌, ℕ, Bool, true, false, cond, not, sym, refl, ap, ◌∙◌, arith}
 use Rattle.std.proofs.lemmas.Bool.{both_ways, cond_both, not-true}
-use Rattle.line.proofs.Tested.{Pass}
 use Rattle.line.specs.Answers.{collected_told, refusal_number}
-use Rattle.line.specs.Calls.{CrewOutcome, begin_collect_tests, begins_collect, laid, refuse_crew, settles, settles_at, tested}
+use Rattle.line.specs.Calls.{CrewOutcome, begins_collect, laid, refuse_crew, settles, settles_at}
 use Rattle.line.specs.Collect.{begun}
 use Rattle.line.specs.declared.answer.Refusal.{Refusal}
 use Rattle.line.specs.declared.answer.Refusal.TheVariants.{BadShape, BadStart, TooShort, NeverLaid, NoLane, PostUnderWay, NoPost, CollectUnsettled, NoCollect, CollectNotEnded, NotDone}

@@ -3,7 +3,7 @@
 -- Said         one call's answer: which call it was, and what it told
 -- Ran          what the calls said, in order, and what they left
 -- closes       what is done with a collect that is still open at the end: it is granted to its end and settled
-use Rattle.std.specs.Prelude.{◌≡◌, ℕ, zero, suc, Bool, true, false, cond, ◌&&◌, List, [], ◌∷◌, ◌++◌, Some, None, Ok, Err, Option, Result, ◌==◌}
+use Rattle.std.specs.Prelude.{◌≡◌, ℕ, zero, suc, Bool, true, false, cond, ◌&&◌, List, [], ◌∷◌, ◌++◌, Some, None, Option, ◌==◌}
 use Rattle.line.specs.Answers.{Told, told, told_by, told_collector, told_done, told_lane, told_totals, collected_told}
 use Rattle.line.specs.Calls.{CrewOutcome, Outcome, begins_collect, begins_post, drained, grants_collector, grants_lane, lays, reports, settles}
 use Rattle.line.specs.Crew.{never_laid}

@@ -59,7 +59,7 @@ fn show_done<W: fmt::Write>(
     res: Result<(), Refusal>,
     f: &mut fmt::Formatter<W>,
 ) -> fmt::Result
-    ensures { WritesOnOk write_str_gives f.old result (done_line word.now res) f.new }
+    ensures { WritesOnOk W.write_str_gives f.old result (done_line word.now res) f.new }
 {
     match res {
         Ok(()) => write!(f, "{word}"),
@@ -68,7 +68,7 @@ fn show_done<W: fmt::Write>(
 }
 
 fn show_refused<W: fmt::Write>(refusal: Refusal, f: &mut fmt::Formatter<W>) -> fmt::Result
-    ensures { WritesOnOk write_str_gives f.old result (refused_line refusal) f.new }
+    ensures { WritesOnOk W.write_str_gives f.old result (refused_line refusal) f.new }
 {
     let number = refusal.number();
     write!(f, "refused {number}")
@@ -80,7 +80,7 @@ fn show_lane<W: fmt::Write>(
     res: Result<LaneAnswer, Refusal>,
     f: &mut fmt::Formatter<W>,
 ) -> fmt::Result
-    ensures { WritesOnOk write_str_gives f.old result (lane_line lane res) f.new }
+    ensures { WritesOnOk W.write_str_gives f.old result (lane_line lane res) f.new }
 {
     match res {
         Ok(LaneAnswer::On) => write!(f, "L{lane} on"),
@@ -96,7 +96,7 @@ fn show_collector<W: fmt::Write>(
     res: Result<CollectorAnswer, Refusal>,
     f: &mut fmt::Formatter<W>,
 ) -> fmt::Result
-    ensures { WritesOnOk write_str_gives f.old result (collector_line res) f.new }
+    ensures { WritesOnOk W.write_str_gives f.old result (collector_line res) f.new }
 {
     match res {
         Ok(CollectorAnswer::On) => write!(f, "C on"),
@@ -107,7 +107,7 @@ fn show_collector<W: fmt::Write>(
 
 /// How a collect ended: grants where it found nothing, lane, stamp and grants where it delivered.
 fn show_collected<W: fmt::Write>(how: Collected, f: &mut fmt::Formatter<W>) -> fmt::Result
-    ensures { WritesOnOk write_str_gives f.old result (collected_line how) f.new }
+    ensures { WritesOnOk W.write_str_gives f.old result (collected_line how) f.new }
 {
     match how {
         Collected::Empty { grants } => write!(f, "C empty {grants}"),
@@ -123,7 +123,7 @@ fn show_settled<W: fmt::Write>(
     res: Result<Collected, Refusal>,
     f: &mut fmt::Formatter<W>,
 ) -> fmt::Result
-    ensures { WritesOnOk write_str_gives f.old result (settled_line res) f.new }
+    ensures { WritesOnOk W.write_str_gives f.old result (settled_line res) f.new }
 {
     match res {
         Ok(_) => write!(f, "settled"),
@@ -136,7 +136,7 @@ fn show_report<W: fmt::Write>(
     res: Result<Totals, Refusal>,
     f: &mut fmt::Formatter<W>,
 ) -> fmt::Result
-    ensures { WritesOnOk write_str_gives f.old result (report_line res) f.new }
+    ensures { WritesOnOk W.write_str_gives f.old result (report_line res) f.new }
 {
     match res {
         Ok(Totals { posted, delivered }) => write!(f, "report {posted} {delivered}"),

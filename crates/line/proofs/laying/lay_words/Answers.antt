@@ -1,4 +1,4 @@
-use Rattle.std.proofs.Common.{◌∙◌, arith, rules}
+use Rattle.std.proofs.Common.{◌∙◌, rules}
 use Rattle.line.proofs.LaidWords.{room_left, laid_by_stores}
 use Rattle.line.proofs.laying.lay_words.Goals as goal
 

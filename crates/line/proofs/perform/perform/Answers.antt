@@ -1,4 +1,4 @@
-use Rattle.std.proofs.Common.{cond, sym, refl, ap, ◌∙◌}
+use Rattle.std.proofs.Common.{cond, refl, ap, ◌∙◌}
 use Rattle.boards.specs.Words.{loaded, raised, stored, swapped, swaps, taken}
 use Rattle.line.specs.declared.access.Access.TheVariants.{Nothing, Load, Store, Swap, Take, CopyTray}
 use Rattle.line.specs.Perform.{copied}

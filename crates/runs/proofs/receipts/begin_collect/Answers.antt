@@ -1,4 +1,4 @@
-use Rattle.std.proofs.Common.{◌≡◌, sym, ap, ◌∙◌}
+use Rattle.std.proofs.Common.{sym, ap, ◌∙◌}
 use Rattle.line.specs.Collect.{begun}
 use Rattle.runs.proofs.Turns.{begin_turns, refused_above_0}
 use Rattle.runs.proofs.receipts.begin_collect.Goals as goal

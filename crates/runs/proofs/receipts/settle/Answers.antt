@@ -1,4 +1,4 @@
-use Rattle.std.proofs.Common.{◌≡◌, sym, ap, ◌∙◌}
+use Rattle.std.proofs.Common.{sym, ap, ◌∙◌}
 use Rattle.line.specs.Collect.{begun}
 use Rattle.runs.proofs.Turns.{settle_turns, collected_0}
 use Rattle.runs.proofs.receipts.settle.Goals as goal

@@ -1,6 +1,6 @@
-use Rattle.std.proofs.Common.{◌≡◌, ◌≤◌, is_some, sym, ap, ◌∙◌, arith}
-use Rattle.line.specs.Calls.{grants_collector, settles}
-use Rattle.runs.specs.Runs.{most_collect_grants, repeated}
+use Rattle.std.proofs.Common.{◌≤◌, is_some, sym, ap, ◌∙◌, arith}
+use Rattle.line.specs.Calls.{settles}
+use Rattle.runs.specs.Runs.{most_collect_grants}
 use Rattle.runs.proofs.Endings.{nothing_to_close, open_collect_ends}
 use Rattle.runs.proofs.Turns.{refused_above_0}
 use Rattle.runs.proofs.run.close.Goals as goal

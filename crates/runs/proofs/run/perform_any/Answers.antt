@@ -1,4 +1,4 @@
-use Rattle.std.proofs.Common.{◌≡◌, ap, ◌∙◌}
+use Rattle.std.proofs.Common.{ap, ◌∙◌}
 use Rattle.line.specs.Answers.{collected_told, told_by, told_collector, told_done, told_lane}
 use Rattle.line.specs.Calls.{begins_collect, grants_collector, grants_lane, settles}
 use Rattle.line.specs.Collect.{begun}

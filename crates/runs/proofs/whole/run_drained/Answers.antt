@@ -1,4 +1,3 @@
-use Rattle.std.proofs.Common.{◌≡◌, arith}
 use Rattle.line.specs.Answers.{told_done}
 use Rattle.runs.proofs.Completion.{completes_drained, new_ready}
 use Rattle.runs.proofs.whole.run_drained.Goals as goal

@@ -7,7 +7,7 @@ use Rattle.walking.proofs.batch.write_batch.Goals as goal
 shorter : (bs script rest : List ℕ) → Splits bs script rest → length rest < length bs
 shorter bs script rest s = omega (arith, s.0, simp (length-append, length-take) at (ap length s.2))
 
-turn : (g : given.Over) (c : goal.In-ok-writeln g) → length c.in-Ok.behind.now < length c.loop-unread.unread.now
+turn : (g : given.Over) (c : goal.In_ok-writeln-in-Ok g) → length c.in-Ok.behind.now < length c.loop-unread.unread.now
 turn g c = shorter _ c.in-Ok.script.now _ c.in-Ok.ensures
 
 pub loop-unread-smaller : goal.loop-unread-smaller
