@@ -1,7 +1,7 @@
 -- The collector's grants keep what holds of the lane.
 use Rattle.std.proofs.Common.{◌≡◌, ℕ, suc, ◌+◌, ◌<◌, ◌≤◌, ◌≢◌, List, [], ◌∷◌, length, sym, refl, ap, ◌∙◌, arith}
 use native.Mathlib.Nat.{mod-add-mod}
-use Rattle.std.specs.List.{AllByRecursion as All}
+use Rattle.std.specs.List.{AllByRecursion}
 use Rattle.boards.specs.Words.{empty_word}
 use Rattle.line.specs.declared.lane.Attempt.{Attempt}
 use Rattle.line.specs.declared.lane.Attempt.TheVariants.{First, Second}
@@ -72,7 +72,7 @@ module _ (K counter now : ℕ) (took : ℕ → ℕ) (l : LaneModel) where
   collect_left : (m σ : ℕ) (c : View) → whole l.ring c ≡ m ∷ l.ring → Ok l c → SlotOk l.ring σ (duty l.cell l.stage) away → Ok (slotting l σ) away
   collect_left m σ c e h b =
       let r : Rising (m ∷ l.ring) = rw e at h.rising in
-      let k : All (λ x. x < counter) (m ∷ l.ring) = rw e at h.below in
+      let k : AllByRecursion (λ x. x < counter) (m ∷ l.ring) = rw e at h.below in
       record { small = h.small; headed = h.headed; tailed = h.tailed; holds = h.holds; rising = r.1; below = k.1; stage = stage_behind K counter m l.ring (length l.ring) l.tails l.cell l.stage (rw e at h.stage); slots = b; timed = h.timed }
 
   pub wrote : (j : Attempt) (m v w : ℕ) → l.slot ≡ v → Ok l (swaps j m v w) → Ok (slotting l w) away

@@ -1,7 +1,7 @@
 -- The collector's grants, by the line's definitions: each leaves an event that met its guard, and the line as it should be.
 use Rattle.std.proofs.Common.{◌≡◌, ℕ, suc, ◌+◌, ◌*◌, ◌%◌, ◌<◌, ◌≤◌, Bool, true, false, cond, eqb, ltb, ◌≢◌, List, [], ◌∷◌, get_or, set, sym, refl, ap, ◌∙◌, subst, inl, inr, mod-eq_of_lt, arith}
 use mathlib.Core.Option.{Option, some}
-use Rattle.std.specs.List.{AllByRecursion as All}
+use Rattle.std.specs.List.{AllByRecursion}
 use Rattle.std.proofs.lemmas.List.{get_or-set_other, get_or-set_same, length-set}
 use Rattle.std.proofs.lemmas.Bool.{eq-eqb, eqb-false, eqb-true, le-ltb, lt-ltb, ltb-false, ltb-true, cases_eq, false≢true, ne_eqb}
 use Rattle.boards.specs.Words.{empty_word, loaded}
@@ -161,7 +161,7 @@ module _ {P : Type 0} (n K : ℕ) (S : State P) (g : Log P) (k : Book P) (v : Sa
     slot_low : (l : LaneModel) → LaneOk s.K s.counter s.now s.took l away → l.slot ≢ empty_word → l.slot < empty_word
     slot_low l o z = elim o.slots.view [ inl f ↦ go l.ring o.below f | inr w ↦ absurd (z w.0) ]
       where
-        go : (R : List ℕ) → All (λ x. x < s.counter) R → l.slot ≡ wanted R → l.slot < empty_word
+        go : (R : List ℕ) → AllByRecursion (λ x. x < s.counter) R → l.slot ≡ wanted R → l.slot < empty_word
         go [] b f = absurd (z f)
         go (x ∷ R) (b, _) f = omega (arith, v.ok.top)
 

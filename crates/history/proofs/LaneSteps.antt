@@ -2,7 +2,7 @@
 use Rattle.std.proofs.Common.{◌≡◌, ℕ, suc, ◌+◌, ◌%◌, ◌<◌, ◌≤◌, cond, eqb, ◌≢◌, List, [], ◌∷◌, ◌++◌, length, sym, refl, ap, ◌∙◌, mod-lt, arith, length-append}
 use native.Mathlib.Nat.{mod-add-mod}
 use native.Mathlib.Decide.{dec_lt}
-use Rattle.std.specs.List.{AllByRecursion as All}
+use Rattle.std.specs.List.{AllByRecursion}
 use Rattle.std.proofs.lemmas.Bool.{cond_both, eqb-true, eqb-false}
 use Rattle.std.proofs.lemmas.Bool.Decides.{nat_tests}
 use Rattle.std.proofs.ByRecursion.{All-push, All-weaker}
@@ -21,7 +21,7 @@ use Rattle.history.proofs.SlotSteps as slot
 use Rattle.history.proofs.Ring.{apart, holds_upd, holds_push, rising_push, ends_push, full_tail}
 
 -- the counter and the clock go on
-all_later : (a b : ℕ) (xs : List ℕ) → a ≤ b → All (λ x. x < a) xs → All (λ x. x < b) xs
+all_later : (a b : ℕ) (xs : List ℕ) → a ≤ b → AllByRecursion (λ x. x < a) xs → AllByRecursion (λ x. x < b) xs
 all_later a b xs h k = All-weaker (λ x. x < a) (λ x. x < b) (λ x g. omega arith) xs k
 
 stage_later : (K counter counter' : ℕ) (L : List ℕ) (n t : ℕ) (cell : ℕ → ℕ) (g : Stage) → counter ≤ counter' → StageOk K counter L n t cell g → StageOk K counter' L n t cell g
@@ -36,14 +36,14 @@ stage_later K counter counter' L n t cell (LoadHead k s v) a h = record { last =
 stage_later K counter counter' L n t cell (LoadFront k s v p) a (h, i) = (record { last = h.last; taken = omega arith }, i)
 stage_later K counter counter' L n t cell (SwapSlot k s v) a h = record { last = h.last; taken = omega arith }
 
-pub whole_part : (R : List ℕ) (v : View) (P : ℕ → Type 0) → All P (whole R v) → All P R
+pub whole_part : (R : List ℕ) (v : View) (P : ℕ → Type 0) → AllByRecursion P (whole R v) → AllByRecursion P R
 whole_part R away P h = h
 whole_part R (kept m) P h = h
 whole_part R (looks j m) P h = h.1
 whole_part R (seen j m x) P h = h.1
 whole_part R (swaps j m x w) P h = h.1
 
-timed_later : (counter now now' : ℕ) (took took' ended : ℕ → ℕ) (W : List ℕ) → now ≤ now' → ((x : ℕ) → x < counter → took' x ≡ took x) → All (λ x. x < counter) W → Timed now took ended W → Timed now' took' ended W
+timed_later : (counter now now' : ℕ) (took took' ended : ℕ → ℕ) (W : List ℕ) → now ≤ now' → ((x : ℕ) → x < counter → took' x ≡ took x) → AllByRecursion (λ x. x < counter) W → Timed now took ended W → Timed now' took' ended W
 timed_later counter now now' took took' ended [] b w a h = tt
 timed_later counter now now' took took' ended (x ∷ W) b w (a, as') (h, hs) = (omega (arith, w x a), timed_later counter now now' took took' ended W b w as' hs)
 

@@ -1,7 +1,7 @@
 -- A lane's calls meet their guards and keep the ties between the model and the book.
 use Rattle.std.proofs.Common.{◌≡◌, ℕ, suc, ◌+◌, ◌%◌, ◌<◌, ◌≢◌, List, [], ◌∷◌, ◌++◌, length, sym, refl, ap, ◌∙◌, subst, inl, inr, arith, length-append}
 use mathlib.Core.Option.{Option, some}
-use Rattle.std.specs.List.{AllByRecursion as All}
+use Rattle.std.specs.List.{AllByRecursion}
 use Rattle.std.proofs.lemmas.Bool.{ne_eqb, eq-eqb, cases_eq}
 use Rattle.std.proofs.ByRecursion.{All-weaker}
 use Rattle.line.specs.declared.lane.Stage.{Stage}
@@ -73,7 +73,7 @@ module _ {P : Type 0} (took took' : ℕ → ℕ) (load load' : ℕ → Option P)
   lane_tie_on : (r K now : ℕ) (hand : Option P) (tray : ℕ → Option P) (l : LaneModel) (c : View) (p : Post P) (ws : List (Waiting P))
       → LaneOk K counter now took l c → LaneTie r K took load hand tray l p ws → LaneTie r K took' load' hand tray l p ws
   lane_tie_on r K now hand tray l c p ws o h =
-      let low : All (λ x. x < counter) l.ring = whole_part l.ring c (λ x. x < counter) o.below in
+      let low : AllByRecursion (λ x. x < counter) l.ring = whole_part l.ring c (λ x. x < counter) o.below in
       record {
         waits =
             match_on r load load' took took' l.ended l.ended ws (waits l.ring l.stage)

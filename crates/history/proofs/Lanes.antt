@@ -5,7 +5,7 @@
 -- waits       the stamps of the ring whose posts have ended
 -- whole       the ring, with the stamp freed last before it while the collector is past its free
 use Rattle.std.proofs.Common.{◌≡◌, ℕ, suc, ◌+◌, ◌%◌, ◌<◌, cond, eqb, List, [], ◌∷◌, ◌++◌, length}
-use Rattle.std.specs.List.{AllByRecursion as All}
+use Rattle.std.specs.List.{AllByRecursion}
 use Rattle.line.specs.declared.lane.Attempt.{Attempt}
 use Rattle.line.specs.declared.lane.Attempt.TheVariants.{First, Second}
 use Rattle.line.specs.declared.lane.Stage.{Stage}
@@ -107,7 +107,7 @@ CellsHold K cell i (x ∷ xs) = (cell (i % K) ≡ x) × CellsHold K cell (suc i)
 
 abbrev pub Rising : List ℕ → Type 0
 Rising [] = Unit {0}
-Rising (x ∷ xs) = All (λ y. x < y) xs × Rising xs
+Rising (x ∷ xs) = AllByRecursion (λ y. x < y) xs × Rising xs
 
 -- the list, if it is not empty, has s at its end, and lower stamps before it
 abbrev pub Ends : ℕ → List ℕ → Type 0
@@ -123,7 +123,7 @@ pub record Own (counter s : ℕ) (L : List ℕ) : Type 0 where
 -- a stamp whose frame is on its way into a ring of n frames: above all stamps of the list
 pub record New (K counter s : ℕ) (L : List ℕ) (n : ℕ) : Type 0 where
   pub room : suc n < K
-  pub above : All (λ x. x < s) L
+  pub above : AllByRecursion (λ x. x < s) L
   pub taken : s < counter
 
 -- what the stage says of the list L, of the number n of frames in the ring, and of the cell at the tail t
@@ -141,7 +141,7 @@ StageOk K counter L n t cell (SwapSlot k s v) = Own counter s L
 
 -- every stamp of the list was taken before its post ended, and that was before now
 abbrev pub Timed : ℕ → (ℕ → ℕ) → (ℕ → ℕ) → List ℕ → Type 0
-Timed now took ended W = All (λ x. (took x < ended x) × (ended x < now)) W
+Timed now took ended W = AllByRecursion (λ x. (took x < ended x) × (ended x < now)) W
 
 pub record LaneOk (K counter now : ℕ) (took : ℕ → ℕ) (l : LaneModel) (c : View) : Type 0 where
   pub small : length l.ring < K
@@ -149,7 +149,7 @@ pub record LaneOk (K counter now : ℕ) (took : ℕ → ℕ) (l : LaneModel) (c 
   pub tailed : l.tails ≡ (l.freed + length l.ring) % K
   pub holds : CellsHold K l.cell l.freed l.ring
   pub rising : Rising (whole l.ring c)
-  pub below : All (λ x. x < counter) (whole l.ring c)
+  pub below : AllByRecursion (λ x. x < counter) (whole l.ring c)
   pub stage : StageOk K counter (whole l.ring c) (length l.ring) l.tails l.cell l.stage
   pub slots : SlotOk l.ring l.slot (duty l.cell l.stage) c
   pub timed : Timed now took l.ended (waits l.ring l.stage)

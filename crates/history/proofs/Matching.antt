@@ -1,7 +1,7 @@
 -- Frames that wait against the stamps of a ring.
 use Rattle.std.proofs.Common.{◌≡◌, ℕ, suc, ◌+◌, ◌%◌, ◌<◌, ◌≤◌, ◌≢◌, List, [], ◌∷◌, ◌++◌, length, sym, refl, ap, ◌∙◌, add-zero, add-suc, suc-add, arith}
 use mathlib.Core.Option.{Option}
-use Rattle.std.specs.List.{AllByRecursion as All}
+use Rattle.std.specs.List.{AllByRecursion}
 use Rattle.std.proofs.lemmas.Bool.{ne_eqb}
 use Rattle.std.proofs.ByRecursion.{All-weaker}
 use Rattle.order.specs.Books.{Waiting}
@@ -12,7 +12,7 @@ use Rattle.history.proofs.Ring.{apart}
 use Rattle.history.proofs.Waits.{front_ends}
 
 -- the stamps before the last are lower
-ends_front : (s : ℕ) (R : List ℕ) → Ends s R → All (λ x. x < s) (front R)
+ends_front : (s : ℕ) (R : List ℕ) → Ends s R → AllByRecursion (λ x. x < s) (front R)
 ends_front s [] e = tt
 ends_front s (x ∷ []) e = tt
 ends_front s (x ∷ (y ∷ R)) (l, e) = (l, ends_front s (y ∷ R) e)
@@ -24,7 +24,7 @@ module _ {P : Type 0} (r : ℕ) where
 
   pub match_on :
       (load load' : ℕ → Option P) (took took' ended ended' : ℕ → ℕ) (ws : List (Waiting P)) (xs : List ℕ)
-      → All (Same load load' took took' ended ended') xs → Match r load took ended ws xs → Match r load' took' ended' ws xs
+      → AllByRecursion (Same load load' took took' ended ended') xs → Match r load took ended ws xs → Match r load' took' ended' ws xs
   match_on load load' took took' ended ended' [] [] a m = tt
   match_on load load' took took' ended ended' [] (x ∷ xs) a m = m
   match_on load load' took took' ended ended' (w ∷ ws) [] a m = m
@@ -45,7 +45,7 @@ module _ {P : Type 0} (r : ℕ) where
     match_push (v ∷ ws) (y ∷ xs) w x f (g, m) = (g, match_push ws xs w x f m)
 
     -- frames of the ring that ended after a time, in the book
-    pub match_after : (ws : List (Waiting P)) (xs : List ℕ) (a t : ℕ) → a ≡ suc t → All (λ x. a < ended x) xs → Match r load took ended ws xs → All (λ (w : Waiting P). t < w.end) ws
+    pub match_after : (ws : List (Waiting P)) (xs : List ℕ) (a t : ℕ) → a ≡ suc t → AllByRecursion (λ x. a < ended x) xs → Match r load took ended ws xs → AllByRecursion (λ (w : Waiting P). t < w.end) ws
     match_after [] xs a t e h m = tt
     match_after (w ∷ ws) [] a t e h m = absurd m
     match_after (w ∷ ws) (x ∷ xs) a t e (h, hs) (f, m) = (omega (arith, f.end), match_after ws xs a t e hs m)
@@ -74,6 +74,6 @@ module _ {P : Type 0} (K : ℕ) where
   carries_push i s tray load (x ∷ R) e (k, h) = (k, carries_push (suc i) s tray load R (rw (add-suc, ← suc-add) at e) h)
 
   -- another table of payloads that agrees on the ring
-  pub carries_on : (i : ℕ) (tray load load' : ℕ → Option P) (R : List ℕ) → All (λ x. load' x ≡ load x) R → Carries K tray load i R → Carries K tray load' i R
+  pub carries_on : (i : ℕ) (tray load load' : ℕ → Option P) (R : List ℕ) → AllByRecursion (λ x. load' x ≡ load x) R → Carries K tray load i R → Carries K tray load' i R
   carries_on i tray load load' [] a h = tt
   carries_on i tray load load' (x ∷ R) (a, as') (e, h) = (e ∙ sym a, carries_on (suc i) tray load load' R as' h)

@@ -6,7 +6,7 @@
 --             past the free, with the word seen in the slot, and the one to be swapped in
 -- After a l   every frame of the lane whose post has ended, ended after time a
 use Rattle.std.proofs.Common.{◌≡◌, ℕ, suc, ◌+◌, ◌%◌, ◌<◌, ◌≤◌, cond, eqb, ltb, ◌≢◌, ◌⊎◌, List, [], ◌∷◌}
-use Rattle.std.specs.List.{AllByRecursion as All}
+use Rattle.std.specs.List.{AllByRecursion}
 use Rattle.boards.specs.Words.{empty_word, stamp_limit}
 use Rattle.line.specs.declared.lane.Attempt.{Attempt}
 use Rattle.line.specs.declared.lane.Attempt.TheVariants.{First, Second}
@@ -56,7 +56,7 @@ pub record LineModel : Type 0 where
   pub col : Progress
 
 abbrev pub After : ℕ → LaneModel → Type 0
-After a l = All (λ x. a < l.ended x) (waits l.ring l.stage)
+After a l = AllByRecursion (λ x. a < l.ended x) (waits l.ring l.stage)
 
 -- all but the first
 abbrev pub rest_of : List ℕ → List ℕ

@@ -1,6 +1,6 @@
 -- Every move keeps the line's invariant.
 use Rattle.std.proofs.Common.{◌≡◌, ℕ, suc, ◌+◌, ◌<◌, ◌≤◌, eqb, ltb, ◌≢◌, ◌⊎◌, List, [], ◌∷◌, ◌++◌, length, sym, refl, ap, inl, inr, arith, length-append}
-use Rattle.std.specs.List.{AllByRecursion as All}
+use Rattle.std.specs.List.{AllByRecursion}
 use Rattle.std.proofs.lemmas.Bool.{cond_both, eqb-true, eqb-false, ltb-true, ltb-false, cases_eq}
 use Rattle.std.proofs.lemmas.Bool.Decides.{nat_tests}
 use Rattle.boards.specs.Words.{empty_word, stamp_limit}
@@ -24,7 +24,7 @@ use Rattle.history.proofs.Scans.{after_less, loaded_none, loaded_some, after_gra
 pub kept_below : (K counter now : ℕ) (took : ℕ → ℕ) (l : LaneModel) (m : ℕ) → LaneOk K counter now took l (kept m) → m < counter
 kept_below K counter now took l m h = go l.ring h.below h.slots.view.1 h.slots.view.2
   where
-    go : (R : List ℕ) → All (λ x. x < counter) R → wanted R ≡ m → m ≢ empty_word → m < counter
+    go : (R : List ℕ) → AllByRecursion (λ x. x < counter) R → wanted R ≡ m → m ≢ empty_word → m < counter
     go [] b e n = absurd (n (sym e))
     go (x ∷ R) b e n = omega arith
 
@@ -213,7 +213,7 @@ module _ (s : LineModel) (h : ModelOk s) (r : ℕ) where
       (ring_stays s.K s.counter s.now (s.lanes r) g)
 
   -- a change of the stage alone
-  same_waits : (P : ℕ → Type 0) (f g : Stage) → (s.lanes r).stage ≡ f → ((f ≡ TakeStamp) × (g ≡ AtRest)) ⊎ ((f ≡ AtRest) × (g ≡ TestSpace)) → All P (waits (s.lanes r).ring (s.lanes r).stage) → All P (waits (s.lanes r).ring g)
+  same_waits : (P : ℕ → Type 0) (f g : Stage) → (s.lanes r).stage ≡ f → ((f ≡ TakeStamp) × (g ≡ AtRest)) ⊎ ((f ≡ AtRest) × (g ≡ TestSpace)) → AllByRecursion P (waits (s.lanes r).ring (s.lanes r).stage) → AllByRecursion P (waits (s.lanes r).ring g)
   same_waits P f g e d k = elim d [ inl x ↦ rw x.1 (rw (e, x.0) at k) | inr x ↦ rw x.1 (rw (e, x.0) at k) ]
 
   lane_goes : (f g : Stage) → (s.lanes r).stage ≡ f → ((f ≡ TakeStamp) × (g ≡ AtRest)) ⊎ ((f ≡ AtRest) × (g ≡ TestSpace)) → ModelOk (moved s (upd s.lanes r (goes (s.lanes r) g)) s.col)

@@ -2,7 +2,7 @@
 use Rattle.std.proofs.Common.{◌≡◌, ℕ, suc, ◌+◌, ◌/◌, ◌%◌, ◌<◌, ◌≤◌, ◌≢◌, List, [], ◌∷◌, ◌++◌, length, sym, refl, ap, ◌∙◌, add-zero, add-suc, suc-add, mul-le-mul_left, arith}
 use native.Mathlib.Nat.{div-add-mod, mod-add-mod, add-mod_right}
 use native.Mathlib.Decide.{dec_lt}
-use Rattle.std.specs.List.{AllByRecursion as All}
+use Rattle.std.specs.List.{AllByRecursion}
 use Rattle.std.proofs.lemmas.Bool.{ne_eqb}
 use Rattle.std.proofs.ByRecursion.{All-push}
 use Rattle.order.specs.Tables.{upd}
@@ -25,11 +25,11 @@ pub holds_push : (K i s : ℕ) (cell : ℕ → ℕ) (R : List ℕ) → cell ((i 
 holds_push K i s cell [] e h = (rw add-zero at e, tt)
 holds_push K i s cell (x ∷ R) e (k, h) = (k, holds_push K (suc i) s cell R (rw (add-suc, ← suc-add) at e) h)
 
-pub rising_push : (s : ℕ) (R : List ℕ) → All (λ x. x < s) R → Rising R → Rising (R ++ s ∷ [])
+pub rising_push : (s : ℕ) (R : List ℕ) → AllByRecursion (λ x. x < s) R → Rising R → Rising (R ++ s ∷ [])
 rising_push s [] a h = (tt, tt)
 rising_push s (x ∷ R) (a, b) (g, h) = (All-push (λ y. x < y) R s g a, rising_push s R b h)
 
-pub ends_push : (s : ℕ) (R : List ℕ) → All (λ x. x < s) R → Ends s (R ++ s ∷ [])
+pub ends_push : (s : ℕ) (R : List ℕ) → AllByRecursion (λ x. x < s) R → Ends s (R ++ s ∷ [])
 ends_push s [] a = refl
 ends_push s (x ∷ []) a = (a.0, refl)
 ends_push s (x ∷ (y ∷ R)) (a, b) = (a, ends_push s (y ∷ R) b)

@@ -1,7 +1,7 @@
 -- What holds of a line after every list of calls: its state mirrors a model that keeps the lanes' invariant, that the book is tied
 -- to, and whose ledger is kept.
 use Rattle.std.proofs.Common.{◌≡◌, ℕ, Bool, List, [], ◌∷◌, refl, ◌∙◌}
-use Rattle.std.specs.List.{AllByRecursion as All}
+use Rattle.std.specs.List.{AllByRecursion}
 use Rattle.std.proofs.lemmas.Bool.{cond_both}
 use Rattle.line.specs.Calls.{tested}
 use Rattle.line.proofs.Tested.{Pass}
@@ -35,7 +35,7 @@ pub record Leaves {P : Type 0} (n K : ℕ) (g : Log P) (k : Book P) (e : Event P
   pub safe : Safe n K S (log_step g e) (book_step k e)
 
 -- a call by its tests: each refusal, and what comes of it if all pass
-pub tested_by : {O : Type 0} (refuse : ℕ → O) (tests : List (Bool × ℕ)) (go : O) (Q : O → Type 0) → All (λ (t : Bool × ℕ). Q (refuse t.1)) tests → (Pass tests → Q go) → Q (tested refuse tests go)
+pub tested_by : {O : Type 0} (refuse : ℕ → O) (tests : List (Bool × ℕ)) (go : O) (Q : O → Type 0) → AllByRecursion (λ (t : Bool × ℕ). Q (refuse t.1)) tests → (Pass tests → Q go) → Q (tested refuse tests go)
 tested_by refuse [] go Q a p = p tt
 tested_by refuse (t ∷ ts) go Q (a, b) p = cond_both t.0 (tested refuse ts go) (refuse t.1) Q (λ e. tested_by refuse ts go Q b (λ h. p (e, h))) (λ _. a)
 

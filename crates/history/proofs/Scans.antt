@@ -1,6 +1,6 @@
 -- What the scans know, and that it stays.
 use Rattle.std.proofs.Common.{◌≡◌, ℕ, ◌+◌, ◌%◌, ◌<◌, ◌≤◌, cond, eqb, List, [], ◌∷◌, length, sym, ◌∙◌, inl, inr, arith}
-use Rattle.std.specs.List.{AllByRecursion as All}
+use Rattle.std.specs.List.{AllByRecursion}
 use Rattle.std.proofs.lemmas.Bool.{cond_both}
 use Rattle.std.proofs.lemmas.Bool.Decides.{nat_tests}
 use Rattle.std.proofs.ByRecursion.{All-weaker}
@@ -25,7 +25,7 @@ late_short R d w = grind arith
 
 module _ (K counter now : ℕ) (took : ℕ → ℕ) (l : LaneModel) (h : LaneOk K counter now took l away) (top : counter ≤ stamp_limit) where
   -- no frame waits where the own one is alone
-  late_none : (P : ℕ → Type 0) (g : Stage) (R : List ℕ) → Late R (duty l.cell g) → All P (waits R g)
+  late_none : (P : ℕ → Type 0) (g : Stage) (R : List ℕ) → Late R (duty l.cell g) → AllByRecursion P (waits R g)
   late_none P AtRest R w = absurd w
   late_none P TestSpace R w = absurd w
   late_none P TakeStamp R w = absurd w
@@ -41,7 +41,7 @@ module _ (K counter now : ℕ) (took : ℕ → ℕ) (l : LaneModel) (h : LaneOk 
   pub loaded_none : (a : ℕ) → l.slot ≡ empty_word → After a l
   loaded_none a e = elim h.slots.view [ inl f ↦ waits_all _ l.ring l.stage (go l.ring h.below (sym f ∙ e)) | inr w ↦ late_none _ l.stage l.ring w.1 ]
     where
-      go : (R : List ℕ) → All (λ x. x < counter) R → wanted R ≡ empty_word → All (λ x. a < l.ended x) R
+      go : (R : List ℕ) → AllByRecursion (λ x. x < counter) R → wanted R ≡ empty_word → AllByRecursion (λ x. a < l.ended x) R
       go [] b f = tt
       go (x ∷ R) b f = absurd (omega arith)
 
@@ -53,25 +53,25 @@ module _ (K counter now : ℕ) (took : ℕ → ℕ) (l : LaneModel) (h : LaneOk 
         | inr w ↦ late_none _ l.stage l.ring w.1
       ]
     where
-      go : (R : List ℕ) → All (λ x. x < counter) R → Rising R → m ≤ wanted R → All (λ x. took m ≤ took x) R
+      go : (R : List ℕ) → AllByRecursion (λ x. x < counter) R → Rising R → m ≤ wanted R → AllByRecursion (λ x. took m ≤ took x) R
       go [] b r f = tt
       go (x ∷ R) (b, bs) (r, rs) f = (climbs m x f b, up R bs r)
         where
-          up : (S : List ℕ) → All (λ x. x < counter) S → All (λ y. x < y) S → All (λ x. took m ≤ took x) S
+          up : (S : List ℕ) → AllByRecursion (λ x. x < counter) S → AllByRecursion (λ y. x < y) S → AllByRecursion (λ x. took m ≤ took x) S
           up [] b r = tt
           up (y ∷ S) (b, bs) (r, rs) = (climbs m y (omega arith) b, up S bs rs)
 
-      join : (W : List ℕ) → All (λ x. took m ≤ took x) W → Timed now took l.ended W → All (λ x. took m < l.ended x) W
+      join : (W : List ℕ) → AllByRecursion (λ x. took m ≤ took x) W → Timed now took l.ended W → AllByRecursion (λ x. took m < l.ended x) W
       join [] p q = tt
       join (x ∷ W) (p, ps) (q, qs) = (omega arith, join W ps qs)
 
 -- a lane's grant leaves it so
 module _ (K counter now : ℕ) (took : ℕ → ℕ) (l : LaneModel) (c : View) (a : ℕ) (past : a < now) where
-  after_ends : (s σ : ℕ) → Own counter s (whole l.ring c) → All (λ x. a < l.ended x) (front l.ring) → After a (ends l now s σ)
+  after_ends : (s σ : ℕ) → Own counter s (whole l.ring c) → AllByRecursion (λ x. a < l.ended x) (front l.ring) → After a (ends l now s σ)
   after_ends s σ o k =
       all_with_last _ s l.ring (ends_part s l.ring c o.last) (All-weaker (λ x. a < l.ended x) (λ x. a < upd l.ended s now x) (λ x f. grind (arith, nat_tests)) (front l.ring) k) (grind (arith, nat_tests))
 
-  pub after_grant : (g : Stage) → StageOk K counter (whole l.ring c) (length l.ring) l.tails l.cell g → l.stage ≡ g → All (λ x. a < l.ended x) (waits l.ring g) → After a (grant K now l g)
+  pub after_grant : (g : Stage) → StageOk K counter (whole l.ring c) (length l.ring) l.tails l.cell g → l.stage ≡ g → AllByRecursion (λ x. a < l.ended x) (waits l.ring g) → After a (grant K now l g)
   after_grant AtRest h e k = rw e k
   after_grant TestSpace h e k = cond_both (eqb l.heads ((l.tails + 1) % K)) _ _ (After a) (λ _. k) (λ _. k)
   after_grant TakeStamp h e k = rw e k

@@ -2,7 +2,7 @@
 -- events against what one would say. Payloads are numbers; the memory that is laid over is twenty words and twenty trays, all 9.
 use Rattle.std.specs.Prelude.{◌≡◌, ℕ, ◌^◌, List, [], ◌∷◌, ◌++◌, replicate}
 use Rattle.std.proofs.Math.Option.{none, some}
-use Rattle.std.specs.List.{AllByRecursion as All}
+use Rattle.std.specs.List.{AllByRecursion}
 use Rattle.line.specs.Calls.{lays}
 use Rattle.line.specs.Crew.{never_laid}
 use Rattle.order.specs.Events.{Event}
@@ -121,4 +121,4 @@ pub record IsTold (s : Story) : Type 0 where
   pub events : open_events (laid s) s.before ++ quiet ∷ draining_events (draining s) s.behind ≡ s.events
 
 abbrev pub SmallListsTellTheirStory : Type 0
-SmallListsTellTheirStory = All IsTold stories
+SmallListsTellTheirStory = AllByRecursion IsTold stories

@@ -1,6 +1,6 @@
 -- Whether a history over numbers meets the guards, by computing. Only lanes on which a post ended can have frames that wait.
 use Rattle.std.proofs.Common.{◌≡◌, ℕ, ◌<◌, Bool, true, false, ◌&&◌, eqb, ltb, leb, ◌⊎◌, List, [], ◌∷◌, ◌++◌, length, sym, refl, ◌∙◌, subst, inl, inr, arith}
-use Rattle.std.specs.List.{AllByRecursion as All}
+use Rattle.std.specs.List.{AllByRecursion}
 use Rattle.std.proofs.ByRecursion.{All-weaker}
 use Rattle.std.proofs.lemmas.Bool.{and_parts, eqb-true, false≢true, leb-true, ltb-true}
 use Rattle.order.specs.Tables.{In}
@@ -154,7 +154,7 @@ module _ (cap : ℕ) (lanes : List ℕ) (k : Book ℕ) (c : CoversWaiting k.wait
   late_true : (t : ℕ) → late lanes k t ≡ true → Late k t
   late_true t e r =
       elim (c r) [
-        | inl n ↦ subst (All (λ (w : Waiting ℕ). t < w.end)) (sym n) tt
+        | inl n ↦ subst (AllByRecursion (λ (w : Waiting ℕ). t < w.end)) (sym n) tt
         | inr i ↦ All-weaker (λ (w : Waiting ℕ). ltb t w.end ≡ true) (λ (w : Waiting ℕ). t < w.end) (λ w h. ltb-true t w.end h) (k.waiting r) (all_true (λ (w : Waiting ℕ). ltb t w.end) (k.waiting r) (all_in (λ (r : ℕ). all (λ w. ltb t w.end) (k.waiting r) ≡ true) r lanes i (all_true (λ r. all (λ w. ltb t w.end) (k.waiting r)) lanes e)))
       ]
 

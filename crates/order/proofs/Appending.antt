@@ -1,7 +1,7 @@
 -- A post that ends posted or full, and whose frame was not freed before, comes to the end of the back.
 use Rattle.std.proofs.Common.{◌≡◌, ℕ, suc, ◌+◌, ◌<◌, ◌≤◌, ◌≢◌, List, [], ◌∷◌, ◌++◌, length, sym, refl, ap, ◌∙◌, subst, inl, inr, append_assoc, append-nil, arith}
 use mathlib.Core.Option.{none, some}
-use Rattle.std.specs.List.{AllByRecursion as All}
+use Rattle.std.specs.List.{AllByRecursion}
 use Rattle.std.proofs.ByRecursion.{All-push, All-weaker}
 use Rattle.std.proofs.lemmas.Bool.{eq-eqb, ne_eqb}
 use Rattle.order.specs.Tables.{In, upd}
@@ -54,7 +54,7 @@ module _ {P : Type 0} (cap : ℕ) (ds : List (Ended P)) (book : Book P) (v : Pla
     fetches_none : (l t : ℕ) → fetched_after l t (i ∷ []) ≡ 0
     no_refusal : (l b : ℕ) → l ≢ r → RefusedBefore l b i
     no_fetch : (b : ℕ) → FetchedBefore b i
-    apart : All (λ (j : Item P). RefusedApart j i) v.back
+    apart : AllByRecursion (λ (j : Item P). RefusedApart j i) v.back
     levels : (l : ℕ) → Levels cap l (length (standing_of l v.back) + 0) (i ∷ [])
     waiting : (l : ℕ) → standing_of l v.back ++ standing_of l (i ∷ []) ≡ waiting' l
     room : (l : ℕ) → Room cap l v.back 0 (waiting' l)
@@ -101,7 +101,7 @@ module _ {P : Type 0} (cap : ℕ) (ds : List (Ended P)) (book : Book P) (v : Pla
     appends =
         let c = v.core in
         let t = book.now in
-        let past : All (BegunBefore t) new_order = All-push (BegunBefore t) v.order (act_at i) c.past f.opened.0 in
+        let past : AllByRecursion (BegunBefore t) new_order = All-push (BegunBefore t) v.order (act_at i) c.past f.opened.0 in
         normalise cap (new_ended ∷ ds) new_book v.owner new_order new_back v.front new_split
         (record {
           levels = λ l. levels_push cap l 0 i v.back f.delivers_none (f.levels l) (c.levels l);

@@ -4,7 +4,7 @@
 --   since            the time that gives an item its place: the end of a post, the free of a collect
 --   deliveries       the frames that the collects of the back take out; the front has put them in
 use Rattle.std.proofs.Common.{◌≡◌, ℕ, ◌+◌, Bool, true, false, cond, ◌&&◌, eqb, ltb, ◌≢◌, List, [], ◌∷◌, ◌++◌, refl, ap, arith}
-use Rattle.std.specs.List.{AllByRecursion as All}
+use Rattle.std.specs.List.{AllByRecursion}
 use Rattle.std.proofs.lemmas.Bool.{eqb-true}
 use Rattle.order.specs.SingleFile.{Act, Frame, act_of, one}
 use Rattle.order.specs.SingleFile.Did.{delivered, full, posted}
@@ -86,11 +86,11 @@ module _ {P : Type 0} where
   fetched_append l t (fetch c f u ∷ a) b = omega (arith, fetched_append l t a b)
 
   -- a property of the acts of the back is one of its items
-  pub all_acts : (Q : Act P → Type 0) (is : List (Item P)) → All (λ (j : Item P). Q (act_at j)) is → All Q (acts is)
+  pub all_acts : (Q : Act P → Type 0) (is : List (Item P)) → AllByRecursion (λ (j : Item P). Q (act_at j)) is → AllByRecursion Q (acts is)
   all_acts Q [] h = tt
   all_acts Q (j ∷ is) (a, h) = (a, all_acts Q is h)
 
-  pub all_items : (Q : Act P → Type 0) (is : List (Item P)) → All Q (acts is) → All (λ (j : Item P). Q (act_at j)) is
+  pub all_items : (Q : Act P → Type 0) (is : List (Item P)) → AllByRecursion Q (acts is) → AllByRecursion (λ (j : Item P). Q (act_at j)) is
   all_items Q [] h = tt
   all_items Q (j ∷ is) (a, h) = (a, all_items Q is h)
 

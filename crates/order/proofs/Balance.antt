@@ -2,7 +2,7 @@
 -- out in the order in which they came in, so the order posts and delivers one and the same list of frames; what it posts is told apart by stamps.
 use Rattle.std.proofs.Common.{◌≡◌, ℕ, suc, eqb, ◌≢◌, List, [], ◌∷◌, ◌++◌, length, sym, refl, ap, ◌∙◌, subst, inl, inr, append_assoc, append-nil, arith}
 use mathlib.Core.Option.{none, some}
-use Rattle.std.specs.List.{AllByRecursion as All}
+use Rattle.std.specs.List.{AllByRecursion}
 use Rattle.std.proofs.lemmas.Bool.{cond-true, eq-eqb}
 use Rattle.order.specs.Tables.{In, Once, gather}
 use Rattle.order.specs.SingleFile.{Act, Did, Does, Frame, Replays, act_of}
@@ -140,11 +140,11 @@ module _ {P : Type 0} where
   counts_delivered (collect none (as_delivered l k)) n fs (inl u) e = absurd u
   counts_delivered (collect none (as_delivered l k)) n fs (inr (did, a)) e = absurd a
 
-  count_all_posted : (ds : List (Ended P)) → All (λ (d : Ended P). Honest d.operation) ds → length (frames_posted ds) ≡ number_posted ds
+  count_all_posted : (ds : List (Ended P)) → AllByRecursion (λ (d : Ended P). Honest d.operation) ds → length (frames_posted ds) ≡ number_posted ds
   count_all_posted [] h = refl
   count_all_posted (d ∷ ds) (h, hs) = counts_posted d.operation (number_posted ds) (frames_posted ds) h (count_all_posted ds hs)
 
-  count_all_delivered : (ds : List (Ended P)) → All (λ (d : Ended P). Honest d.operation) ds → length (frames_delivered ds) ≡ number_delivered ds
+  count_all_delivered : (ds : List (Ended P)) → AllByRecursion (λ (d : Ended P). Honest d.operation) ds → length (frames_delivered ds) ≡ number_delivered ds
   count_all_delivered [] h = refl
   count_all_delivered (d ∷ ds) (h, hs) = counts_delivered d.operation (number_delivered ds) (frames_delivered ds) h (count_all_delivered ds hs)
 

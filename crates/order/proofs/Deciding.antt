@@ -1,7 +1,7 @@
 -- Tests on lists and on frames of numbers, and what they decide.
 -- an element of a list that a test lets through
 use Rattle.std.proofs.Common.{◌≡◌, ℕ, Bool, true, false, cond, ◌&&◌, ◌||◌, eqb, List, [], ◌∷◌, refl, ap, ◌∙◌, inl, inr}
-use Rattle.std.specs.List.{AllByRecursion as All}
+use Rattle.std.specs.List.{AllByRecursion}
 use Rattle.std.proofs.lemmas.Bool.{and_from, and_parts, eq-eqb, eqb-true, false≢true, or_cases, or_left, or_right}
 use Rattle.order.specs.Tables.{In}
 use Rattle.order.specs.SingleFile.{Frame, frame_of}
@@ -44,10 +44,10 @@ module _ {X : Type 0} (t : X → Bool) where
   true_any (y ∷ xs) x (inl q) e = or_left (t y) (any t xs) (ap t q ∙ e)
   true_any (y ∷ xs) x (inr i) e = or_right (t y) (any t xs) (true_any xs x i e)
 
-  pub all_true : (xs : List X) → all t xs ≡ true → All (λ (x : X). t x ≡ true) xs
+  pub all_true : (xs : List X) → all t xs ≡ true → AllByRecursion (λ (x : X). t x ≡ true) xs
   all_true [] e = tt
   all_true (x ∷ xs) e = let p = and_parts (t x) (all t xs) e in (p.0, all_true xs p.1)
 
-  pub true_all : (xs : List X) → All (λ (x : X). t x ≡ true) xs → all t xs ≡ true
+  pub true_all : (xs : List X) → AllByRecursion (λ (x : X). t x ≡ true) xs → all t xs ≡ true
   true_all [] h = refl
   true_all (x ∷ xs) (h, hs) = and_from (t x) (all t xs) h (true_all xs hs)

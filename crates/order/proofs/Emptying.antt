@@ -1,7 +1,7 @@
 -- A collect that ends empty comes to the end of the front: the back delivers nothing then, and all of it lies after the collect began.
 use Rattle.std.proofs.Common.{◌≡◌, ℕ, suc, ◌<◌, ◌≤◌, eqb, ◌≢◌, List, [], ◌∷◌, ◌++◌, length, sym, refl, ◌∙◌, subst, inl, inr, append_assoc, arith}
 use mathlib.Core.Option.{none}
-use Rattle.std.specs.List.{AllByRecursion as All}
+use Rattle.std.specs.List.{AllByRecursion}
 use Rattle.std.proofs.ByRecursion.{All-weaker}
 use Rattle.std.proofs.lemmas.Bool.{cases_eq, cond-false, cond-true, eq-eqb, lt-ltb, ne_eqb}
 use Rattle.order.specs.Tables.{In, Pairs}
@@ -25,32 +25,32 @@ module _ {P : Type 0} where
   -- if every frame that waits ended after t, then every item of the back has its place after t
   pub all_late :
       (book : Book P) (t : ℕ) (back : List (Item P)) → FirstStands back → ((l : ℕ) → standing_of l back ≡ book.waiting l) → Late book t → Pairs Sorted back
-      → All (After t) back
+      → AllByRecursion (After t) back
   all_late book t [] h w k o = tt
   all_late book t (standing v ∷ is) h w k (a, o) =
       let l = v.frame.lane in
       let e : v ∷ standing_of l is ≡ book.waiting l = sym (cond-true (eqb l l) (v ∷ standing_of l is) (standing_of l is) (eq-eqb l l refl)) ∙ w l in
-      let n : All (λ (w : Waiting P). t < w.end) (v ∷ standing_of l is) = subst (All (λ (w : Waiting P). t < w.end)) (sym e) (k l) in
+      let n : AllByRecursion (λ (w : Waiting P). t < w.end) (v ∷ standing_of l is) = subst (AllByRecursion (λ (w : Waiting P). t < w.end)) (sym e) (k l) in
       (n.0, All-weaker (Sorted (standing v)) (After t) (λ j s. omega (arith, n.0)) is a)
   all_late book t (refused b r u ∷ is) h w k o = absurd h
   all_late book t (fetch b f u ∷ is) h w k o = absurd h
 
   -- then it has none of the collects that lie before t
-  none_delivered : (t : ℕ) (is : List (Item P)) → All (After t) is → All (FetchedBefore t) is → deliveries is ≡ []
+  none_delivered : (t : ℕ) (is : List (Item P)) → AllByRecursion (After t) is → AllByRecursion (FetchedBefore t) is → deliveries is ≡ []
   none_delivered t [] h k = refl
   none_delivered t (standing w ∷ is) (a, h) (b, k) = none_delivered t is h k
   none_delivered t (refused c r u ∷ is) (a, h) (b, k) = none_delivered t is h k
   none_delivered t (fetch c f u ∷ is) (a, h) (b, k) = absurd (omega arith)
 
   -- its deliveries of a lane are its frees of that lane after t
-  pub all_fetched_after : (l t : ℕ) (is : List (Item P)) → All (After t) is → fetched_after l t is ≡ count l (deliveries is)
+  pub all_fetched_after : (l t : ℕ) (is : List (Item P)) → AllByRecursion (After t) is → fetched_after l t is ≡ count l (deliveries is)
   all_fetched_after l t [] h = refl
   all_fetched_after l t (standing w ∷ is) (a, h) = all_fetched_after l t is h
   all_fetched_after l t (refused c r u ∷ is) (a, h) = all_fetched_after l t is h
   all_fetched_after l t (fetch c f u ∷ is) (a, h) = let ih = all_fetched_after l t is h in let e = lt-ltb t u a in grind arith
 
   -- it is clear of a lane on which nothing waits, if the full posts of that lane lie before b, and b before t
-  pub all_clear : (r b t : ℕ) (is : List (Item P)) → b < t → All (After t) is → standing_of r is ≡ [] → All (RefusedBefore r b) is → All (ClearOf r) is
+  pub all_clear : (r b t : ℕ) (is : List (Item P)) → b < t → AllByRecursion (After t) is → standing_of r is ≡ [] → AllByRecursion (RefusedBefore r b) is → AllByRecursion (ClearOf r) is
   all_clear r b t [] n h w k = tt
   all_clear r b t (standing v ∷ is) n (a, h) w (s, k) =
       elim (cases_eq v.frame.lane r) [
@@ -62,11 +62,11 @@ module _ {P : Type 0} where
 
   -- what began by t may stand before items that all have their place after t
   pub before_first :
-      (ds : List (Ended P)) (t : ℕ) (a : Act P) (is : List (Item P)) → a.began ≤ t → All (After t) is → All (EndsLate ds) is
-      → Unplaced (acts is) a.began → All (Before ds a) (acts is)
+      (ds : List (Ended P)) (t : ℕ) (a : Act P) (is : List (Item P)) → a.began ≤ t → AllByRecursion (After t) is → AllByRecursion (EndsLate ds) is
+      → Unplaced (acts is) a.began → AllByRecursion (Before ds a) (acts is)
   before_first ds t a is n h k u =
       let Later : Item P → Type 0 = λ j. (t < since j) × ((act_at j).began ≢ a.began) in
-      let both : All Later is = all_both (After t) (λ (j : Item P). (act_at j).began ≢ a.began) Later (λ j x y. (x, y)) is h (all_items (NotBegunAt a.began) is u) in
+      let both : AllByRecursion Later is = all_both (After t) (λ (j : Item P). (act_at j).began ≢ a.began) Later (λ j x y. (x, y)) is h (all_items (NotBegunAt a.began) is u) in
       all_acts (Before ds a) is
       (all_both Later (EndsLate ds) (λ (j : Item P). Before ds a (act_at j))
       (λ j p o. ((λ e. p.1 (sym e)), All-weaker (λ (d : Ended P). d.began ≡ (act_at j).began → since j ≤ d.ended) (λ (d : Ended P). d.began ≡ (act_at j).began → a.began ≤ d.ended) (λ d q e. omega (arith, q e, p.0)) ds o))
@@ -89,9 +89,9 @@ module _ {P : Type 0} where
       let u : View P = view ds book o old back in
       let u' : View P = view (d ∷ ds) book' o new back in
       let was : CollectOk u (looking b) = rw e at c.collector in
-      let later : All (After b) back = all_late book b back v.first_stands c.waiting late c.sorted in
+      let later : AllByRecursion (After b) back = all_late book b back v.first_stands c.waiting late c.sorted in
       let nil : deliveries back ≡ [] = none_delivered b back later was.2 in
-      let past : All (BegunBefore now) new = all_put (BegunBefore now) front (acts back) a was.0.0 c.past in
+      let past : AllByRecursion (BegunBefore now) new = all_put (BegunBefore now) front (acts back) a was.0.0 c.past in
       record {
         owner = o;
         order = new;

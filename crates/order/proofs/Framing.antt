@@ -1,6 +1,6 @@
 -- What a step leaves alone stays; and the back is normalised: what stands before its first waiting post goes over to the front.
 use Rattle.std.proofs.Common.{◌≡◌, ℕ, suc, ◌+◌, ◌<◌, ◌≤◌, List, [], ◌∷◌, ◌++◌, length, sym, refl, ◌∙◌, append_assoc, arith}
-use Rattle.std.specs.List.{AllByRecursion as All}
+use Rattle.std.specs.List.{AllByRecursion}
 use Rattle.order.specs.SingleFile.{Act, Does, Frame, Replays}
 use Rattle.order.specs.Logs.{Ended}
 use Rattle.order.specs.Books.{Book, Collect, Post, Waiting}
@@ -15,7 +15,7 @@ use Rattle.order.proofs.Invariant.{CollectOk, Core, EndedOther, FetchedBefore, L
 pub record Keeps {P : Type 0} (v v' : View P) (who : ℕ) : Type 0 where
   pub later : v.now ≤ v'.now
   pub owned : (b : ℕ) → b < v.now → v'.owner b ≡ v.owner b
-  pub unended : (b : ℕ) → v.owner b ≡ who → All (EndedOther b) v.ended → All (EndedOther b) v'.ended
+  pub unended : (b : ℕ) → v.owner b ≡ who → AllByRecursion (EndedOther b) v.ended → AllByRecursion (EndedOther b) v'.ended
   pub unplaced : (b : ℕ) → v.owner b ≡ who → Unplaced v.order b → Unplaced v'.order b
 
 module _ {P : Type 0} (v v' : View P) where
@@ -25,7 +25,7 @@ module _ {P : Type 0} (v v' : View P) where
   -- a lane's part, if its full posts lie as they lay, and what is freed or waits on it becomes no more
   pub lane_stays :
       (cap r n n' : ℕ) (p : Post P) → Keeps v v' (suc r)
-      → ((b : ℕ) → All (RefusedBefore r b) v.back → All (RefusedBefore r b) v'.back)
+      → ((b : ℕ) → AllByRecursion (RefusedBefore r b) v.back → AllByRecursion (RefusedBefore r b) v'.back)
       → ((t : ℕ) → t < v.now → fetched_after r t v'.back + n' ≤ fetched_after r t v.back + n)
       → LaneOk cap v r n p → LaneOk cap v' r n' p
   lane_stays cap r n n' idle k s f h = tt
@@ -35,7 +35,7 @@ module _ {P : Type 0} (v v' : View P) where
   lane_stays cap r n n' (gone b x e) k s f o = open_stays (suc r) b k o
 
   pub collect_stays :
-      (c : Collect P) → Keeps v v' 0 → ((b : ℕ) → All (FetchedBefore b) v.back → All (FetchedBefore b) v'.back) → CollectOk v c → CollectOk v' c
+      (c : Collect P) → Keeps v v' 0 → ((b : ℕ) → AllByRecursion (FetchedBefore b) v.back → AllByRecursion (FetchedBefore b) v'.back) → CollectOk v c → CollectOk v' c
   collect_stays at_rest k s h = tt
   collect_stays (looking b) k s (o, u, z) = (open_stays 0 b k o, k.unplaced b o.1 u, s b z)
   collect_stays (holding b f) k s o = open_stays 0 b k o

@@ -1,6 +1,6 @@
 -- A collect frees the frame of a post under way, on a lane where none waits: the post gets its place, at the end of the front.
 use Rattle.std.proofs.Common.{◌≡◌, ℕ, suc, eqb, ◌≢◌, List, [], ◌∷◌, ◌++◌, length, sym, refl, ap, ◌∙◌, subst, inl, inr, arith}
-use Rattle.std.specs.List.{AllByRecursion as All}
+use Rattle.std.specs.List.{AllByRecursion}
 use Rattle.std.proofs.ByRecursion.{All-push, All-weaker}
 use Rattle.std.proofs.lemmas.Bool.{cases_eq, cond-true, eq-eqb}
 use Rattle.order.specs.Tables.{In, upd}
@@ -47,10 +47,10 @@ module _ {P : Type 0} where
       let was : CollectOk u (looking b) = rw is-looking at c.collector in
       let lane : LaneOk cap u r (length (book.waiting r)) (stamped b₁ y s t) = rw is-stamped at (c.lanes r) in
       let owner-r : o b₁ ≡ suc r = lane.0.1 in
-      let lates : All (After t) back = all_late book t back v.first_stands c.waiting late c.sorted in
-      let clear : All (ClearOf r) back = all_clear r b₁ t back lane.3 lates (c.waiting r ∙ is_nil) lane.2 in
+      let lates : AllByRecursion (After t) back = all_late book t back v.first_stands c.waiting late c.sorted in
+      let clear : AllByRecursion (ClearOf r) back = all_clear r b₁ t back lane.3 lates (c.waiting r ∙ is_nil) lane.2 in
       let later : (l u : ℕ) → l ≢ r → fetched_after l u (back ++ i ∷ []) ≡ fetched_after l u back = λ l u m. no_more l u b n f back m in
-      let put : (Q : Act P → Type 0) → Q e → All Q old → All Q mid = λ Q q h. all_put Q front (acts back) e q h in
+      let put : (Q : Act P → Type 0) → Q e → AllByRecursion Q old → AllByRecursion Q mid = λ Q q h. all_put Q front (acts back) e q h in
       let keeps : (l : ℕ) → l ≢ r → Keeps u u' (suc l) =
       λ l m. record {
         later = omega arith;

@@ -1,6 +1,6 @@
 -- A collect frees a frame that waited, the oldest of its lane: its post moves from the back to the end of the front.
 use Rattle.std.proofs.Common.{◌≡◌, ℕ, suc, ◌+◌, ◌≤◌, ◌≢◌, List, [], ◌∷◌, ◌++◌, length, sym, refl, ap, ◌∙◌, subst, inl, inr, append_assoc, arith}
-use Rattle.std.specs.List.{AllByRecursion as All}
+use Rattle.std.specs.List.{AllByRecursion}
 use Rattle.std.proofs.ByRecursion.{All-push, All-weaker}
 use Rattle.std.proofs.lemmas.Bool.{ne_eqb}
 use Rattle.order.specs.Tables.{In, upd}
@@ -50,14 +50,14 @@ module _ {P : Type 0} where
       let u : View P = view ds book o old back in
       let u' : View P = view ds book' o (mid ++ d ∷ []) (rest ++ i ∷ []) in
       let was : CollectOk u (looking b) = rw is-looking at c.collector in
-      let moved : (Q : Act P → Type 0) → All Q old → All Q mid = λ Q h. rw acts-rest (all_move Q e front (acts x) (acts y) h) in
-      let lates : All (After t) back = all_late book t back (subst FirstStands found.parts v.first_stands) c.waiting late c.sorted in
-      let lates-x : All (After t) x = all_front (After t) x (standing w ∷ y) lates in
-      let lates-rest : All (After t) rest = all_less (After t) x y (standing w) lates in
+      let moved : (Q : Act P → Type 0) → AllByRecursion Q old → AllByRecursion Q mid = λ Q h. rw acts-rest (all_move Q e front (acts x) (acts y) h) in
+      let lates : AllByRecursion (After t) back = all_late book t back (subst FirstStands found.parts v.first_stands) c.waiting late c.sorted in
+      let lates-x : AllByRecursion (After t) x = all_front (After t) x (standing w ∷ y) lates in
+      let lates-rest : AllByRecursion (After t) rest = all_less (After t) x y (standing w) lates in
       let times : Timed n (standing w) = all_at (Timed n) x y (standing w) c.timed in
-      let refusals : All (RefusedBefore f.lane w.began) x =
+      let refusals : AllByRecursion (RefusedBefore f.lane w.began) x =
       All-weaker (λ (j : Item P). Sorted j (standing w)) (RefusedBefore f.lane w.began) (λ j s. apart_before j w s.1) x (pairs_before Sorted x y (standing w) c.sorted) in
-      let clear : All (ClearOf f.lane) x = all_clear f.lane w.began t x times.0 lates-x (subst (λ (l : ℕ). standing_of l x ≡ []) (sym rl) found.none_before) refusals in
+      let clear : AllByRecursion (ClearOf f.lane) x = all_clear f.lane w.began t x times.0 lates-x (subst (λ (l : ℕ). standing_of l x ≡ []) (sym rl) found.none_before) refusals in
       let same-deliveries : deliveries back ≡ deliveries rest = deliveries_append x (standing w ∷ y) ∙ sym (deliveries_append x y) in
       let same_fetches : (l u : ℕ) → fetched_after l u back ≡ fetched_after l u rest = λ l u. omega (arith, fetched_append l u x (standing w ∷ y), fetched_append l u x y) in
       let room-r : Room cap r back 0 (w ∷ ws) = subst (Room cap r back 0) is-w (c.room r) in

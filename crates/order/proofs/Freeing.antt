@@ -1,7 +1,7 @@
 -- A collect frees a frame. The frame's post goes to the end of the front, from its place in the back if it waited, and the collect comes
 -- to the end of the back; then the back is normalised.
 use Rattle.std.proofs.Common.{◌≡◌, ℕ, suc, ◌+◌, ◌<◌, ◌≤◌, Bool, true, false, ◌&&◌, eqb, ltb, ◌≢◌, List, [], ◌∷◌, ◌++◌, length, sym, refl, ap, ◌∙◌, subst, inl, inr, append_assoc, append-nil, arith}
-use Rattle.std.specs.List.{AllByRecursion as All}
+use Rattle.std.specs.List.{AllByRecursion}
 use Rattle.std.proofs.ByRecursion.{All-push, All-weaker}
 use Rattle.std.proofs.lemmas.Bool.{ne_eqb}
 use Rattle.order.specs.Tables.{In, Pairs}
@@ -48,15 +48,15 @@ module _
       pub levels : (l : ℕ) → Levels cap l 0 freed_back
       pub waiting : (l : ℕ) → standing_of l rest ≡ waiting' l
       pub sorted : Pairs Sorted rest
-      pub timed : All (Timed book.now) rest
-      pub ends_late : All (EndsLate ds) rest
+      pub timed : AllByRecursion (Timed book.now) rest
+      pub ends_late : AllByRecursion (EndsLate ds) rest
       pub room : (l : ℕ) → Room cap l freed_back 0 (waiting' l)
       pub lanes : (l : ℕ) → LaneOk cap freed_view l (length (waiting' l)) (posts' l)
       pub precede : Pairs (Before ds) moved_order
-      pub past : All (BegunBefore book.now) moved_order
-      pub past_ended : All (EarlierThan book.now) ds
+      pub past : AllByRecursion (BegunBefore book.now) moved_order
+      pub past_ended : AllByRecursion (EarlierThan book.now) ds
       pub ended_apart : Pairs (λ (x y : Ended P). x.began ≢ y.began) ds
-      pub settled : All (Settled ds freed_book) moved_order
+      pub settled : AllByRecursion (Settled ds freed_book) moved_order
       pub whole : (a : Act P) → Settled ds freed_book a → In a freed_order
 
     pub frees : Ready → Placed cap ds freed_book

@@ -1,6 +1,6 @@
 -- Lists of which each element has some things: what is gathered from all of them, and when that has nothing twice.
 use Rattle.std.proofs.Common.{◌≡◌, ◌≢◌, ◌⊎◌, List, [], ◌∷◌, ◌++◌, sym, refl, ap, ◌∙◌, subst, inl, inr}
-use Rattle.std.specs.List.{AllByRecursion as All}
+use Rattle.std.specs.List.{AllByRecursion}
 use Rattle.std.proofs.ByRecursion.{All-append, All-weaker}
 use Rattle.order.specs.Tables.{In, Once, Pairs, gather}
 use Rattle.order.proofs.Lists.{all_from_in, all_in, in_first, in_second, in_split, pairs_weaker}
@@ -22,7 +22,7 @@ module _ {Y : Type 0} where
   distinct_rest [] vs h = h
   distinct_rest (u ∷ us) vs (a, h) = distinct_rest us vs h
 
-  distinct_join : (us vs : List Y) → Distinct us → Distinct vs → ((f : Y) → In f us → All (λ (y : Y). f ≢ y) vs) → Distinct (us ++ vs)
+  distinct_join : (us vs : List Y) → Distinct us → Distinct vs → ((f : Y) → In f us → AllByRecursion (λ (y : Y). f ≢ y) vs) → Distinct (us ++ vs)
   distinct_join [] vs d e h = e
   distinct_join (u ∷ us) vs (b, d) e h = (All-append (λ (y : Y). u ≢ y) us vs b (h u (inl refl)), distinct_join us vs d e (λ f i. h f (inr i)))
 

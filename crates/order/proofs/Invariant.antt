@@ -3,7 +3,7 @@
 --   settled      ended; or a collect that holds a frame; or a post whose frame is gone: these stand in the order
 --   owner        begin time ↦ who began then: 0 the collector, suc r lane r; it keeps begin times apart
 use Rattle.std.proofs.Common.{◌≡◌, ℕ, suc, ◌+◌, ◌<◌, ◌≤◌, ◌≢◌, ◌⊎◌, List, [], ◌∷◌, ◌++◌, length}
-use Rattle.std.specs.List.{AllByRecursion as All}
+use Rattle.std.specs.List.{AllByRecursion}
 use Rattle.order.specs.Tables.{In, Pairs}
 use Rattle.order.specs.SingleFile.{Act, Frame, Replays, act_of, frame_of}
 use Rattle.order.specs.SingleFile.Did.{delivered, posted}
@@ -72,7 +72,7 @@ Timed now (fetch b f u) = (b < u) × (u < now)
 
 -- if the item's operation has ended, then not before the time that gives it its place
 abbrev pub EndsLate : {P : Type 0} → List (Ended P) → Item P → Type 0
-EndsLate {P} ds i = All (λ (d : Ended P). d.began ≡ (act_at i).began → since i ≤ d.ended) ds
+EndsLate {P} ds i = AllByRecursion (λ (d : Ended P). d.began ≡ (act_at i).began → since i ≤ d.ended) ds
 
 -- the waiting frames of lane r, from the i-th on: those older than w and those freed since w took its stamp leave w room
 abbrev pub Room : {P : Type 0} → ℕ → ℕ → List (Item P) → ℕ → List (Waiting P) → Type 0
@@ -103,37 +103,37 @@ view ds book owner order back = record { now = book.now; owner = owner; ended = 
 
 -- the operation that this party began at b is under way, and it has no place yet
 abbrev pub Open : {P : Type 0} → View P → ℕ → ℕ → Type 0
-Open {P} v who b = (b < v.now) × (v.owner b ≡ who) × All (EndedOther b) v.ended
+Open {P} v who b = (b < v.now) × (v.owner b ≡ who) × AllByRecursion (EndedOther b) v.ended
 
 abbrev pub Unplaced : {P : Type 0} → List (Act P) → ℕ → Type 0
-Unplaced {P} order b = All (NotBegunAt b) order
+Unplaced {P} order b = AllByRecursion (NotBegunAt b) order
 
 -- lane r, of which n frames wait
 abbrev pub LaneOk : {P : Type 0} → ℕ → View P → ℕ → ℕ → Post P → Type 0
 LaneOk cap v r n idle = Unit {0}
-LaneOk cap v r n (begun b x) = Open v (suc r) b × Unplaced v.order b × All (RefusedBefore r b) v.back
-LaneOk cap v r n (stamped b x s t) = Open v (suc r) b × Unplaced v.order b × All (RefusedBefore r b) v.back × (b < t) × (t < v.now) × (fetched_after r t v.back + n < cap)
+LaneOk cap v r n (begun b x) = Open v (suc r) b × Unplaced v.order b × AllByRecursion (RefusedBefore r b) v.back
+LaneOk cap v r n (stamped b x s t) = Open v (suc r) b × Unplaced v.order b × AllByRecursion (RefusedBefore r b) v.back × (b < t) × (t < v.now) × (fetched_after r t v.back + n < cap)
 LaneOk cap v r n (gone b x s) = Open v (suc r) b
 
 abbrev pub CollectOk : {P : Type 0} → View P → Collect P → Type 0
 CollectOk v at_rest = Unit {0}
-CollectOk v (looking b) = Open v 0 b × Unplaced v.order b × All (FetchedBefore b) v.back
+CollectOk v (looking b) = Open v 0 b × Unplaced v.order b × AllByRecursion (FetchedBefore b) v.back
 CollectOk v (holding b f) = Open v 0 b
 
 pub record Core {P : Type 0} (cap : ℕ) (ds : List (Ended P)) (book : Book P) (owner : ℕ → ℕ) (order : List (Act P)) (back : List (Item P)) : Type 0 where
   pub levels : (l : ℕ) → Levels cap l 0 back
   pub waiting : (l : ℕ) → standing_of l back ≡ book.waiting l
   pub sorted : Pairs Sorted back
-  pub timed : All (Timed book.now) back
-  pub ends_late : All (EndsLate ds) back
+  pub timed : AllByRecursion (Timed book.now) back
+  pub ends_late : AllByRecursion (EndsLate ds) back
   pub room : (l : ℕ) → Room cap l back 0 (book.waiting l)
   pub lanes : (l : ℕ) → LaneOk cap (view ds book owner order back) l (length (book.waiting l)) (book.posts l)
   pub collector : CollectOk (view ds book owner order back) book.collect
   pub precede : Pairs (Before ds) order
-  pub past : All (BegunBefore book.now) order
-  pub past_ended : All (EarlierThan book.now) ds
+  pub past : AllByRecursion (BegunBefore book.now) order
+  pub past_ended : AllByRecursion (EarlierThan book.now) ds
   pub ended_apart : Pairs (λ (d e : Ended P). d.began ≢ e.began) ds
-  pub settled : All (Settled ds book) order
+  pub settled : AllByRecursion (Settled ds book) order
   pub whole : (a : Act P) → Settled ds book a → In a order
 
 pub record Split {P : Type 0} (cap : ℕ) (order front : List (Act P)) (back : List (Item P)) : Type 0 where

@@ -1,7 +1,7 @@
 -- Histories over numbers are judged by computing: an order that is written out is accepted, or all arrangements are refused.
 use Rattle.std.proofs.Common.{◌≡◌, ℕ, Bool, true, false, not, ◌&&◌, ◌||◌, eqb, List, [], ◌∷◌, length, sym, refl, ap, ◌∙◌, subst, inl, inr, arith}
 use mathlib.Core.Option.{Option, none, some}
-use Rattle.std.specs.List.{AllByRecursion as All}
+use Rattle.std.specs.List.{AllByRecursion}
 use Rattle.std.proofs.ByRecursion.{All-weaker}
 use Rattle.std.proofs.lemmas.Bool.{and_parts, both_ways, eq-eqb, eqb-true, false≢true, not-true, or_cases, or_left, or_right}
 use Rattle.order.specs.Tables.{In, Pairs, gather}
@@ -137,7 +137,7 @@ module _ (cap : ℕ) (es : List (Event ℕ)) where
 
   -- what the tests say of an order written out
   module _ (order : List (Act ℕ)) (e : accepted cap es order ≡ true) where
-    tests : All (λ (t : Bool). t ≡ true)
+    tests : AllByRecursion (λ (t : Bool). t ≡ true)
         (is_some (play cap [] order) ∷ pairs apart order ∷ pairs (in_time g.ended) order ∷ all (is_in ms) order ∷ all (is_in order) ms ∷ all honest g.ended ∷ [])
     tests =
         all_true (λ t. t)

@@ -3,7 +3,7 @@
 -- Levels cap l p is: with p frames of lane l posted so far, and those still to be delivered by the collects of `is`, a
 -- waiting post of lane l finds less than cap, and a full one cap.
 use Rattle.std.proofs.Common.{◌≡◌, ℕ, ◌+◌, ◌<◌, eqb, ◌≢◌, List, [], ◌∷◌, ◌++◌, length, sym, refl, ap, ◌∙◌, subst, append_assoc, append-nil, arith}
-use Rattle.std.specs.List.{AllByRecursion as All}
+use Rattle.std.specs.List.{AllByRecursion}
 use Rattle.std.proofs.lemmas.Bool.{ne_eqb}
 use Rattle.order.specs.SingleFile.{Frame, Replays, count, one}
 use Rattle.order.specs.Books.{Waiting}
@@ -55,7 +55,7 @@ module _ {P : Type 0} where
         let z : count l (f ∷ []) ≡ 0 = rw (ne_eqb f.lane l n) (omega arith) in
         omega (arith, more l, count_deliveries l a new, count_deliveries l a old)
 
-    levels_over : (a : List (Item P)) (p : ℕ) → All (ClearOf f.lane) a → Levels cap l p (a ++ old) → Levels cap l p (a ++ new)
+    levels_over : (a : List (Item P)) (p : ℕ) → AllByRecursion (ClearOf f.lane) a → Levels cap l p (a ++ old) → Levels cap l p (a ++ new)
     levels_over [] p c h = at-end p h
     levels_over (standing w ∷ a) p (n, c) (k, h) =
         (λ e. omega (arith, k e, other_lane a (λ z. n (e ∙ sym z))), levels_over a (one (eqb w.frame.lane l) + p) c h)
@@ -64,7 +64,7 @@ module _ {P : Type 0} where
 
   -- a waiting post leaves its place, and a collect at the end delivers its frame
   pub levels_moved :
-      (cap l b u : ℕ) (w : Waiting P) (x y : List (Item P)) → All (ClearOf w.frame.lane) x
+      (cap l b u : ℕ) (w : Waiting P) (x y : List (Item P)) → AllByRecursion (ClearOf w.frame.lane) x
       → Levels cap l 0 (x ++ standing w ∷ y) → Levels cap l 0 (x ++ (y ++ fetch b w.frame u ∷ []))
   levels_moved cap l b u w x y c h =
       levels_over cap l w.frame (standing w ∷ y) (y ++ fetch b w.frame u ∷ [])
@@ -72,7 +72,7 @@ module _ {P : Type 0} where
       (λ p k. levels_late cap l p b u w.frame y k.1) x 0 c h
 
   -- a collect at the end delivers a frame that has no post in the back
-  pub levels_own : (cap l b u : ℕ) (f : Frame P) (x : List (Item P)) → All (ClearOf f.lane) x → Levels cap l 0 x → Levels cap l 0 (x ++ fetch b f u ∷ [])
+  pub levels_own : (cap l b u : ℕ) (f : Frame P) (x : List (Item P)) → AllByRecursion (ClearOf f.lane) x → Levels cap l 0 x → Levels cap l 0 (x ++ fetch b f u ∷ [])
   levels_own cap l b u f x c h = levels_over cap l f [] (fetch b f u ∷ []) (λ n. omega arith) (λ p k. tt) x 0 c (rw append-nil h)
 
   -- a post that waits, or a full one, comes to the end: it finds the frames of its lane that wait in the back

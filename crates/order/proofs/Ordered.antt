@@ -1,7 +1,7 @@
 -- From the invariant to the single-file order, and along a history.
 use Rattle.std.proofs.Common.{◌≡◌, ℕ, ◌≢◌, List, [], ◌∷◌, sym, refl, ap, ◌∙◌, subst, inl, inr, append-nil, arith}
 use mathlib.Core.Option.{Option, none, some}
-use Rattle.std.specs.List.{AllByRecursion as All}
+use Rattle.std.specs.List.{AllByRecursion}
 use Rattle.std.proofs.ByRecursion.{All-weaker}
 use Rattle.order.specs.Tables.{In}
 use Rattle.order.specs.SingleFile.{Act, Frame, Replays, act_of, frame_of}
@@ -157,7 +157,7 @@ module _ {P : Type 0} (cap : ℕ) (g : Log P) (k : Book P) (v : Kept cap g k) wh
         | inr (did, s) ↦ inr (act_of d.began did, core.whole (act_of d.began did) (inl (d, i, refl, s)), refl, s)
       ]
 
-  true_for_all : All (λ (a : Act P). Unit {0}) its_order
+  true_for_all : AllByRecursion (λ (a : Act P). Unit {0}) its_order
   true_for_all = all_any (λ (a : Act P). Unit {0}) (λ a. tt) its_order
 
   -- the front, and then the back, replay; the frames that wait are left

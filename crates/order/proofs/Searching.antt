@@ -1,7 +1,7 @@
 -- All arrangements of the members can be tried, one act after another, by computing. What is found to have no arrangement has no order.
 use Rattle.std.proofs.Common.{◌≡◌, ℕ, zero, suc, ◌≤◌, Bool, true, false, cond, not, ◌&&◌, ◌||◌, eqb, leb, ◌≢◌, List, [], ◌∷◌, ◌++◌, length, sym, refl, ap, ◌∙◌, subst, inl, inr, append_assoc, arith, length-append}
 use mathlib.Core.Option.{Option, none, some}
-use Rattle.std.specs.List.{AllByRecursion as All}
+use Rattle.std.specs.List.{AllByRecursion}
 use Rattle.std.proofs.ByRecursion.{All-append, All-weaker}
 use Rattle.std.proofs.lemmas.Bool.{and_from, both_ways, cases_Bool, cases_eq, cond-false, cond-true, eq-eqb, eqb-false, eqb-true, le-leb, leb-true, ne_eqb, not_from_false, not-true, or_cases, or_left, or_right}
 use Rattle.order.specs.Tables.{In, Pairs}
@@ -92,13 +92,13 @@ module _ (x y : Act ℕ) where
   abbrev ends_late : Ended ℕ → Bool
   ends_late d = not (eqb d.began y.began) || leb x.began d.ended
 
-  pub in_time_true : (ds : List (Ended ℕ)) → in_time ds x y ≡ true → All (λ (d : Ended ℕ). d.began ≡ y.began → x.began ≤ d.ended) ds
+  pub in_time_true : (ds : List (Ended ℕ)) → in_time ds x y ≡ true → AllByRecursion (λ (d : Ended ℕ). d.began ≡ y.began → x.began ≤ d.ended) ds
   in_time_true ds e =
       All-weaker (λ (d : Ended ℕ). ends_late d ≡ true) (λ (d : Ended ℕ). d.began ≡ y.began → x.began ≤ d.ended)
       (λ d h q. elim (or_cases (not (eqb d.began y.began)) (leb x.began d.ended) h) [ inl n ↦ absurd (both_ways (eqb d.began y.began) (not-true (eqb d.began y.began) n) (eq-eqb d.began y.began q)) | inr l ↦ leb-true x.began d.ended l ])
       ds (all_true ends_late ds e)
 
-  true_in_time : (ds : List (Ended ℕ)) → All (λ (d : Ended ℕ). d.began ≡ y.began → x.began ≤ d.ended) ds → in_time ds x y ≡ true
+  true_in_time : (ds : List (Ended ℕ)) → AllByRecursion (λ (d : Ended ℕ). d.began ≡ y.began → x.began ≤ d.ended) ds → in_time ds x y ≡ true
   true_in_time ds h =
       true_all ends_late ds
       (All-weaker (λ (d : Ended ℕ). d.began ≡ y.began → x.began ≤ d.ended) (λ (d : Ended ℕ). ends_late d ≡ true)
@@ -149,7 +149,7 @@ module _ (cap : ℕ) (ds : List (Ended ℕ)) (left : List (Frame ℕ)) where
   pub arranged :
       (n : ℕ) (order : List (Act ℕ)) (q : List (Frame ℕ)) (rest : List (Act ℕ)) → length rest ≤ n
       → ((a : Act ℕ) → In a order → In a rest) → ((a : Act ℕ) → In a rest → In a order)
-      → Pairs Apart order → Pairs Apart rest → Pairs (λ (x y : Act ℕ). All (λ (d : Ended ℕ). d.began ≡ y.began → x.began ≤ d.ended) ds) order
+      → Pairs Apart order → Pairs Apart rest → Pairs (λ (x y : Act ℕ). AllByRecursion (λ (d : Ended ℕ). d.began ≡ y.began → x.began ≤ d.ended) ds) order
       → Replays cap q order left → arranges n cap ds q rest ≡ true
   arranged zero order q [] l i j p r t h = refl
   arranged zero order q (x ∷ rest) l i j p r t h = absurd (omega arith)
@@ -159,14 +159,14 @@ module _ (cap : ℕ) (ds : List (Ended ℕ)) (left : List (Frame ℕ)) where
       let others : List (Act ℕ) = us ++ vs in
       let r' : Pairs Apart (us ++ a ∷ vs) = subst (Pairs Apart) e r in
       let len : length others ≤ n = omega (arith, ap length e, length-append us (a ∷ vs), length-append us vs) in
-      let apart-others : All (λ (z : Act ℕ). z.began ≢ a.began) others =
+      let apart-others : AllByRecursion (λ (z : Act ℕ). z.began ≢ a.began) others =
       All-append (λ (z : Act ℕ). z.began ≢ a.began) us vs (pairs_before Apart us vs a r') (All-weaker (Apart a) (λ (z : Act ℕ). z.began ≢ a.began) (λ z n q. n (sym q)) vs (pairs_behind Apart us vs a r')) in
       let into : (z : Act ℕ) → In z order → In z others =
       λ z k. elim (in_cases z us vs a (subst (In z) e (i z (inr k)))) [ inl w ↦ absurd (all_in (Apart a) z order k pa (ap (λ (x : Act ℕ). x.began) w)) | inr w ↦ w ] in
       let from : (z : Act ℕ) → In z others → In z order =
       λ z k. elim (j z (subst (In z) (sym e) (in_put z us vs a k))) [ inl w ↦ absurd (all_in (λ (z : Act ℕ). z.began ≢ a.began) z others k apart-others (ap (λ (x : Act ℕ). x.began) (sym w))) | inr w ↦ w ] in
       let timely : all (in_time ds a) others ≡ true =
-      true_all (in_time ds a) others (all_from_in (λ (y : Act ℕ). in_time ds a y ≡ true) others (λ y k. true_in_time a y ds (all_in (λ (y : Act ℕ). All (λ (d : Ended ℕ). d.began ≡ y.began → a.began ≤ d.ended) ds) y order (from y k) ta))) in
+      true_all (in_time ds a) others (all_from_in (λ (y : Act ℕ). in_time ds a y ≡ true) others (λ y k. true_in_time a y ds (all_in (λ (y : Act ℕ). AllByRecursion (λ (d : Ended ℕ). d.began ≡ y.began → a.began ≤ d.ended) ds) y order (from y k) ta))) in
       let ih : arranges n cap ds m others ≡ true = arranged n order m others len into from p (pairs_less Apart us vs a r') t h in
       let goes_on : holds (λ m. arranges n cap ds m others) (after_act cap q a.did) ≡ true = ap (holds (λ m. arranges n cap ds m others)) (after_does cap q m a.did s) ∙ ih in
       let test : Act ℕ → List (Act ℕ) → Bool = λ a others. all (in_time ds a) others && holds (λ m. arranges n cap ds m others) (after_act cap q a.did) in

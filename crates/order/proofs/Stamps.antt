@@ -2,7 +2,7 @@
 -- ended operation agrees with some act, unless it ended used up.
 use Rattle.std.proofs.Common.{◌≡◌, ℕ, suc, ◌<◌, ◌≤◌, ◌≢◌, ◌⊎◌, List, [], ◌∷◌, ◌++◌, sym, refl, ap, ◌∙◌, subst, inl, inr, arith}
 use mathlib.Core.Option.{none, some}
-use Rattle.std.specs.List.{AllByRecursion as All}
+use Rattle.std.specs.List.{AllByRecursion}
 use Rattle.std.proofs.ByRecursion.{All-push, All-weaker}
 use Rattle.order.specs.Tables.{In, upd}
 use Rattle.order.specs.SingleFile.{Did, Frame, frame_of}
@@ -29,7 +29,7 @@ Honest {P} o = UsedUp o ⊎ ((did : Did P) × Agrees o did)
 abbrev pub PostOk : {P : Type 0} → List (Ended P) → Collect P → ℕ → ℕ → List (Waiting P) → Post P → Type 0
 PostOk ds c top r ws idle = Unit {0}
 PostOk ds c top r ws (begun b x) = Unit {0}
-PostOk {P} ds c top r ws (stamped b x s t) = (s < top) × All (λ (w : Waiting P). w.frame.stamp ≢ s) ws × ((f : Frame P) → Freed ds c f → f.lane ≡ r → f.stamp ≢ s)
+PostOk {P} ds c top r ws (stamped b x s t) = (s < top) × AllByRecursion (λ (w : Waiting P). w.frame.stamp ≢ s) ws × ((f : Frame P) → Freed ds c f → f.lane ≡ r → f.stamp ≢ s)
 PostOk ds c top r ws (gone b x s) = Freed ds c (frame_of r s x)
 
 abbrev pub WaitOk : {P : Type 0} → ℕ → ℕ → Waiting P → Type 0
@@ -37,16 +37,16 @@ WaitOk top r w = (w.frame.lane ≡ r) × (w.frame.stamp < top)
 
 pub record Stamps {P : Type 0} (ds : List (Ended P)) (book : Book P) : Type 0 where
   pub below : (f : Frame P) → Freed ds book.collect f → f.stamp < book.top
-  pub waits_ok : (r : ℕ) → All (WaitOk book.top r) (book.waiting r)
+  pub waits_ok : (r : ℕ) → AllByRecursion (WaitOk book.top r) (book.waiting r)
   pub posts_ok : (r : ℕ) → PostOk ds book.collect book.top r (book.waiting r) (book.posts r)
-  pub honest : All (λ (d : Ended P). Honest d.operation) ds
+  pub honest : AllByRecursion (λ (d : Ended P). Honest d.operation) ds
 
 module _ {P : Type 0} where
   -- of this lane nothing new is freed but what waited
   post_stays :
       (ds ds' : List (Ended P)) (c c' : Collect P) (top top' r : ℕ) (ws ws' : List (Waiting P)) (p : Post P)
       → top ≤ top'
-      → ((Q : Waiting P → Type 0) → All Q ws → All Q ws')
+      → ((Q : Waiting P → Type 0) → AllByRecursion Q ws → AllByRecursion Q ws')
       → ((f : Frame P) → Freed ds c f → Freed ds' c' f)
       → ((f : Frame P) → Freed ds' c' f → f.lane ≡ r → Freed ds c f ⊎ ((w : Waiting P) × In w ws × (w.frame ≡ f)))
       → PostOk ds c top r ws p → PostOk ds' c' top' r ws' p
@@ -136,7 +136,7 @@ module _ {P : Type 0} (ds : List (Ended P)) (book : Book P) (v : Stamps ds book)
       let was : PostOk ds book.collect book.top r (book.waiting r) (stamped b x s t) = rw e at (v.posts_ok r) in
       record {
         below = λ f j. v.below f (freed_same ds d book.collect f (posts_none r s k x) j);
-        waits_ok = upd_all (λ l us. All (WaitOk book.top l) us) book.waiting r ws (All-push (WaitOk book.top r) (book.waiting r) w (v.waits_ok r) (refl, was.0)) (λ l _. v.waits_ok l);
+        waits_ok = upd_all (λ l us. AllByRecursion (WaitOk book.top l) us) book.waiting r ws (All-push (WaitOk book.top r) (book.waiting r) w (v.waits_ok r) (refl, was.0)) (λ l _. v.waits_ok l);
         posts_ok =
             upd_all (λ l p. PostOk (d ∷ ds) book.collect book.top l (upd book.waiting r ws l) p) book.posts r idle tt
             (λ l m. subst (λ us. PostOk (d ∷ ds) book.collect book.top l us (book.posts l)) (sym (upd_other book.waiting r ws l m))
@@ -152,7 +152,7 @@ module _ {P : Type 0} (ds : List (Ended P)) (book : Book P) (v : Stamps ds book)
   -- the collect begins or ends, and what is freed stays the same
   stamps_collect :
       (c : Collect P) (ds' : List (Ended P))
-      → ((f : Frame P) → Freed ds book.collect f → Freed ds' c f) → ((f : Frame P) → Freed ds' c f → Freed ds book.collect f) → All (λ (d : Ended P). Honest d.operation) ds'
+      → ((f : Frame P) → Freed ds book.collect f → Freed ds' c f) → ((f : Frame P) → Freed ds' c f → Freed ds book.collect f) → AllByRecursion (λ (d : Ended P). Honest d.operation) ds'
       → Stamps ds' (book_collect book c)
   stamps_collect c ds' i o h =
       record { below = λ f k. v.below f (o f k); waits_ok = v.waits_ok; posts_ok = same_post ds' c book.top (omega arith) i o; honest = h }
@@ -219,7 +219,7 @@ module _ {P : Type 0} (ds : List (Ended P)) (book : Book P) (v : Stamps ds book)
       → Stamps ds (record { now = suc book.now; posts = book.posts; waiting = upd book.waiting r ws; collect = holding b w.frame; top = book.top })
   stamps_freed_waiting b r w ws e q =
       let f = w.frame in
-      let old : All (WaitOk book.top r) (w ∷ ws) = subst (All (WaitOk book.top r)) q (v.waits_ok r) in
+      let old : AllByRecursion (WaitOk book.top r) (w ∷ ws) = subst (AllByRecursion (WaitOk book.top r)) q (v.waits_ok r) in
       let from : (l : ℕ) (k : Frame P) → Freed ds (holding b f) k → k.lane ≡ l → Freed ds book.collect k ⊎ ((w : Waiting P) × In w (book.waiting l) × (w.frame ≡ k)) =
       λ l k h z. elim (freed_cases b f k e h) [
         | inl y ↦ inr (w, (let rl : r ≡ l = sym old.0.0 ∙ (ap (λ (f : Frame P). f.lane) y ∙ z) in subst (λ (l : ℕ). In w (book.waiting l)) rl (subst (In w) (sym q) (inl refl))), y)
@@ -227,10 +227,10 @@ module _ {P : Type 0} (ds : List (Ended P)) (book : Book P) (v : Stamps ds book)
       ] in
       record {
         below = λ k h. elim (freed_cases b f k e h) [ inl z ↦ subst (λ (f : Frame P). f.stamp < book.top) z old.0.1 | inr z ↦ v.below k z ];
-        waits_ok = upd_all (λ l us. All (WaitOk book.top l) us) book.waiting r ws old.1 (λ l _. v.waits_ok l);
+        waits_ok = upd_all (λ l us. AllByRecursion (WaitOk book.top l) us) book.waiting r ws old.1 (λ l _. v.waits_ok l);
         posts_ok =
             λ l. post_stays ds ds book.collect (holding b f) book.top book.top l (book.waiting l) (upd book.waiting r ws l) (book.posts l) (omega arith)
-            (λ Q h. upd_all (λ l us. All Q (book.waiting l) → All Q us) book.waiting r ws (λ a. (subst (All Q) q a).1) (λ l _ a. a) l h)
+            (λ Q h. upd_all (λ l us. AllByRecursion Q (book.waiting l) → AllByRecursion Q us) book.waiting r ws (λ a. (subst (AllByRecursion Q) q a).1) (λ l _ a. a) l h)
             (λ k h. freed_next b f k e h) (from l) (v.posts_ok l);
         honest = v.honest;
       }

@@ -1,6 +1,6 @@
 -- Events that change neither the order nor what has ended: a quiet call, a post or a collect that begins, a stamp taken.
 use Rattle.std.proofs.Common.{◌≡◌, ℕ, suc, ◌<◌, List, length, refl, inl, inr, arith}
-use Rattle.std.specs.List.{AllByRecursion as All}
+use Rattle.std.specs.List.{AllByRecursion}
 use Rattle.std.proofs.ByRecursion.{All-weaker}
 use Rattle.order.specs.Tables.{upd}
 use Rattle.order.specs.SingleFile.{Act}
@@ -86,7 +86,7 @@ module _ {P : Type 0} (cap : ℕ) (ds : List (Ended P)) (book : Book P) (v : Pla
   owner_before : (who b : ℕ) → b < book.now → owner_now who b ≡ v.owner b
   owner_before who b h = upd_other v.owner book.now who b (λ e. omega arith)
 
-  unended_now : All (EndedOther book.now) ds
+  unended_now : AllByRecursion (EndedOther book.now) ds
   unended_now = All-weaker (EarlierThan book.now) (EndedOther book.now) (λ d h e. omega arith) ds v.core.past_ended
 
   unplaced_now : Unplaced v.order book.now

@@ -1,7 +1,7 @@
 -- A stamp is taken once: the frames of posts that ended posted, and of those under way, have different stamps.
 use Rattle.std.proofs.Common.{◌≡◌, ℕ, suc, ◌<◌, ◌≤◌, ◌≢◌, List, [], ◌∷◌, ◌++◌, sym, refl, ap, subst, arith}
 use mathlib.Core.Option.{some}
-use Rattle.std.specs.List.{AllByRecursion as All}
+use Rattle.std.specs.List.{AllByRecursion}
 use Rattle.std.proofs.ByRecursion.{All-weaker}
 use Rattle.order.specs.Tables.{Pairs, upd}
 use Rattle.order.specs.SingleFile.{Frame}
@@ -22,10 +22,10 @@ HasStamp (gone b x k) s = k ≡ s
 
 -- a stamp that no post took so far which ended posted
 abbrev pub Unposted : {P : Type 0} → List (Ended P) → ℕ → Type 0
-Unposted {P} ds s = All (λ (f : Frame P). f.stamp ≢ s) (frames_posted ds)
+Unposted {P} ds s = AllByRecursion (λ (f : Frame P). f.stamp ≢ s) (frames_posted ds)
 
 pub record TakenOnce {P : Type 0} (ds : List (Ended P)) (posts : ℕ → Post P) (top : ℕ) : Type 0 where
-  pub posted_below : All (λ (f : Frame P). f.stamp < top) (frames_posted ds)
+  pub posted_below : AllByRecursion (λ (f : Frame P). f.stamp < top) (frames_posted ds)
   pub posted_apart : Pairs (λ (f h : Frame P). f.stamp ≢ h.stamp) (frames_posted ds)
   pub own_below : (r s : ℕ) → HasStamp (posts r) s → s < top
   pub own_apart : (r s : ℕ) → HasStamp (posts r) s → Unposted ds s

@@ -4,7 +4,7 @@
 -- That the stamps and lanes answered are those of the frames is a part of the single-file order.
 use Rattle.std.specs.Prelude.{◌≡◌, ℕ, suc, List, [], ◌∷◌, length}
 use Rattle.std.proofs.Math.Option.{none, some}
-use Rattle.std.specs.List.{AllByRecursion as All}
+use Rattle.std.specs.List.{AllByRecursion}
 use Rattle.order.specs.Tables.{Once, gather}
 use Rattle.order.specs.SingleFile.{Frame, frame_of}
 use Rattle.order.specs.Events.PostEnd.{as_full, as_posted, as_used_up}
@@ -58,8 +58,8 @@ module _ {P : Type 0} where
 pub record Balanced {P : Type 0} (g : Log P) : Type 0 where
   pub all_posted : length (frames_posted g.ended) ≡ number_posted g.ended
   pub all_delivered : length (frames_delivered g.ended) ≡ number_delivered g.ended
-  pub each_delivered : All (λ (f : Frame P). Once f (frames_delivered g.ended)) (frames_posted g.ended)
-  pub each_posted : All (λ (f : Frame P). Once f (frames_posted g.ended)) (frames_delivered g.ended)
+  pub each_delivered : AllByRecursion (λ (f : Frame P). Once f (frames_delivered g.ended)) (frames_posted g.ended)
+  pub each_posted : AllByRecursion (λ (f : Frame P). Once f (frames_posted g.ended)) (frames_delivered g.ended)
 
 -- if the last call was an accepted report, the frames balance, and its totals are the numbers of posts and collects
 abbrev pub Account : {P : Type 0} → Log P → Type 0

@@ -4,7 +4,7 @@
 --   below    the operation under way, if there is one, had fewer, so that one more grant may end it
 use Rattle.std.specs.Prelude.{ℕ, ◌<◌, ◌≤◌}
 use Rattle.std.proofs.Math.Option.{Option, none, some}
-use Rattle.std.specs.List.{AllByRecursion as All}
+use Rattle.std.specs.List.{AllByRecursion}
 use Rattle.order.specs.Logs.{Collecting, Ended, Log, Operation, Posting}
 use Rattle.order.specs.Logs.Operation.{collect, post}
 
@@ -27,9 +27,9 @@ CollectBelow most (some c) = c.grants < most
 
 -- every ended post had at most so many grants, and every post under way fewer; and so for collects
 pub record PostsEndBy {P : Type 0} (most : ℕ) (g : Log P) : Type 0 where
-  pub ended : All (λ (d : Ended P). PostWithin most d.grants d.operation) g.ended
+  pub ended : AllByRecursion (λ (d : Ended P). PostWithin most d.grants d.operation) g.ended
   pub under_way : (r : ℕ) → PostBelow most (g.posts r)
 
 pub record CollectsEndBy {P : Type 0} (most : ℕ) (g : Log P) : Type 0 where
-  pub ended : All (λ (d : Ended P). CollectWithin most d.grants d.operation) g.ended
+  pub ended : AllByRecursion (λ (d : Ended P). CollectWithin most d.grants d.operation) g.ended
   pub under_way : CollectBelow most g.collecting

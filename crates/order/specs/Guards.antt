@@ -3,7 +3,7 @@
 --   late       every frame that waits, on any lane, ended after this time
 --   oldest     the frame that waits longest on its lane; if none waits there, the stamped frame of the lane's post under way
 use Rattle.std.specs.Prelude.{◌≡◌, ℕ, ◌<◌, ◌≤◌, List, [], ◌∷◌, length}
-use Rattle.std.specs.List.{AllByRecursion as All}
+use Rattle.std.specs.List.{AllByRecursion}
 use Rattle.order.specs.SingleFile.{Frame, frame_of}
 use Rattle.order.specs.Events.{Event}
 use Rattle.order.specs.Events.PostEnd.{as_full, as_posted, as_used_up}
@@ -28,7 +28,7 @@ Answers a (stamped b x s t) = a ≡ s
 Answers a (gone b x s) = a ≡ s
 
 abbrev pub Late : {P : Type 0} → Book P → ℕ → Type 0
-Late {P} k t = (r : ℕ) → All (λ (w : Waiting P). t < w.end) (k.waiting r)
+Late {P} k t = (r : ℕ) → AllByRecursion (λ (w : Waiting P). t < w.end) (k.waiting r)
 
 -- f is the frame of the post under way, and every frame that waits ended after that post took its stamp
 abbrev pub OwnFrame : {P : Type 0} → Book P → Frame P → Post P → Type 0

@@ -3,7 +3,7 @@
 -- the guards. Payloads are numbers.
 -- Times in the comments are places in the list of events, from 0; an act is named by the time at which its operation began.
 use Rattle.std.specs.Prelude.{ℕ, List, [], ◌∷◌, ◌++◌}
-use Rattle.std.specs.List.{AllByRecursion as All}
+use Rattle.std.specs.List.{AllByRecursion}
 use Rattle.order.specs.SingleFile.{Act, act_of, frame_of}
 use Rattle.order.specs.SingleFile.Did.{delivered, empty, full, posted}
 use Rattle.order.specs.Events.{Event}
@@ -109,4 +109,4 @@ abbrev pub IsWrong : Wrong → Type 0
 IsWrong h = (SingleFileOrder h.cap (log_of h.events) → ⊥) × (Admitted h.cap h.events → ⊥)
 
 abbrev pub SmallHistoriesAreJudgedRightly : Type 0
-SmallHistoriesAreJudgedRightly = All IsRight right_histories × All IsWrong wrong_histories
+SmallHistoriesAreJudgedRightly = AllByRecursion IsRight right_histories × AllByRecursion IsWrong wrong_histories

@@ -4,7 +4,7 @@
 --   belongs   the operation has taken effect, so the order holds it, and with this act
 use Rattle.std.specs.Prelude.{◌≡◌, ℕ, ◌≤◌, ◌≢◌, ◌⊎◌, List, []}
 use Rattle.std.proofs.Math.Option.{none, some}
-use Rattle.std.specs.List.{AllByRecursion as All}
+use Rattle.std.specs.List.{AllByRecursion}
 use Rattle.order.specs.Tables.{In, Pairs}
 use Rattle.order.specs.SingleFile.{Act, Did, Frame, Replays, act_of, frame_of}
 use Rattle.order.specs.SingleFile.Did.{delivered, empty, full, posted}
@@ -40,7 +40,7 @@ module _ {P : Type 0} (ended : List (Ended P)) where
 
   -- x may stand before y: the operation y has not ended before x began
   abbrev pub MayPrecede : Act P → Act P → Type 0
-  MayPrecede x y = All (λ (d : Ended P). d.began ≡ y.began → x.began ≤ d.ended) ended
+  MayPrecede x y = AllByRecursion (λ (d : Ended P). d.began ≡ y.began → x.began ≤ d.ended) ended
 
 module _ {P : Type 0} (g : Log P) where
   -- the collect under way, once it has fetched a frame and freed its cell
@@ -68,9 +68,9 @@ pub record IsOrder {P : Type 0} (cap : ℕ) (g : Log P) (order : List (Act P)) :
   pub replays : Replays cap [] order left
   pub apart : Pairs (λ (x y : Act P). x.began ≢ y.began) order
   pub real_time : Pairs (MayPrecede g.ended) order
-  pub belong : All (Belongs g order) order
+  pub belong : AllByRecursion (Belongs g order) order
   pub whole : (a : Act P) → Belongs g order a → In a order
-  pub stand : All (Stands order) g.ended
+  pub stand : AllByRecursion (Stands order) g.ended
 
 pub record SingleFileOrder {P : Type 0} (cap : ℕ) (g : Log P) : Type 0 where
   pub order : List (Act P)

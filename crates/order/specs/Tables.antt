@@ -5,7 +5,7 @@
 --   gather of xs what each of xs has, one after another
 --   upd f i a    the table f with a at place i
 use Rattle.std.specs.Prelude.{◌≡◌, ℕ, cond, ◌≢◌, ◌⊎◌, List, [], ◌∷◌, ◌++◌, ◌==◌}
-use Rattle.std.specs.List.{AllByRecursion as All}
+use Rattle.std.specs.List.{AllByRecursion}
 
 abbrev pub In : {X : Type 0} → X → List X → Type 0
 In x [] = ⊥
@@ -13,10 +13,10 @@ In x (y ∷ ys) = (y ≡ x) ⊎ In x ys
 
 abbrev pub Pairs : {X : Type 0} → (X → X → Type 0) → List X → Type 0
 Pairs R [] = Unit {0}
-Pairs R (x ∷ xs) = All (R x) xs × Pairs R xs
+Pairs R (x ∷ xs) = AllByRecursion (R x) xs × Pairs R xs
 
 abbrev pub Once : {X : Type 0} → X → List X → Type 0
-Once {X} x xs = (before : List X) × (behind : List X) × (xs ≡ before ++ x ∷ behind) × All (λ (y : X). y ≢ x) (before ++ behind)
+Once {X} x xs = (before : List X) × (behind : List X) × (xs ≡ before ++ x ∷ behind) × AllByRecursion (λ (y : X). y ≢ x) (before ++ behind)
 
 abbrev pub gather : {X Y : Type 0} → (X → List Y) → List X → List Y
 gather of [] = []

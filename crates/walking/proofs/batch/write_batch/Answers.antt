@@ -1,4 +1,4 @@
-use Rattle.std.proofs.Common.{ℕ, ◌<◌, List, ◌++◌, length, take, ap, arith, length-append, length-take}
+use Rattle.std.proofs.Common.{ℕ, ◌<◌, List, length, ap, arith, length-append, length-take}
 use Rattle.walking.specs.Batches.{Splits}
 use Rattle.walking.proofs.batch.write_batch.Given as given
 use Rattle.walking.proofs.batch.write_batch.Goals as goal
