@@ -1,28 +1,34 @@
 //! The receipt of a collect that was begun.
+ghost use Rattle.std.specs.Prelude.{◌≡◌, true, false};
+
 use crate::answer::Refusal;
 
 /// A begun collect, as its owner holds it: it cannot be let go, and only settling spends it.
 pub struct Receipt {
-    begun: (),
+    /// Whether the collect is settled. No receipt ever says so: it is made as its collect begins, and settling spends it.
+    settled: bool,
 }
 
+/// A receipt may be let go only if it says that its collect is settled, so nobody can.
 impl Drop for Receipt {
     fn drop(self)
-        requires { ⊥ }
+        requires { self.settled ≡ true }
     {
-        let Receipt { begun: _ } = self;
+        let Receipt { settled: _ } = self;
     }
 }
 
 impl Receipt {
     /// The receipt of a collect that has just begun.
-    pub(crate) fn new() -> Receipt {
-        Receipt { begun: () }
+    pub(crate) fn new() -> Receipt
+        ensures { result.settled ≡ false }
+    {
+        Receipt { settled: false }
     }
 
     /// Spends the receipt.
     pub(crate) fn spend(self) {
-        let Receipt { begun: _ } = self;
+        let Receipt { settled: _ } = self;
     }
 }
 

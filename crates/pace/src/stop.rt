@@ -41,7 +41,10 @@ impl From<Refusal> for Stop {
 impl fmt::Debug for Stop {
     fn fmt<W: fmt::Write>(&self, f: &mut fmt::Formatter<W>) -> fmt::Result {
         match self {
-            Stop::BadArguments => write!(f, "the arguments are neither count nor time LANES CYCLES"),
+            Stop::BadArguments => write!(
+                f,
+                "the arguments are neither count nor time LANES CYCLES"
+            ),
             Stop::NoMemory => write!(f, "out of memory"),
             Stop::Io(error) => write!(f, "{error}"),
             Stop::Refused(refusal) => {

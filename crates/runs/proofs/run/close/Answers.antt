@@ -19,5 +19,6 @@ drop-unspent-requires g c =
     let core = g.C.AnyCrew.core c.args.crew.now in
     let enough : 41 ≤ times = omega (arith, c.most_collect_grants.ensures) in
     let accepted = open_collect_ends times c.args.held ws ps core enough c.requires (sym c.requires.receipt ∙ ap is_some c.in-Some.is) in
-    refused_above_0 c.in-Err.field-0.refusal
-    (ap (λ t. t.number) c.in-Err.ensures.answer ∙ ap (λ k. (settles k).answer.number) c.grant_collector_times.ensures.crew ∙ accepted)
+    absurd
+    (refused_above_0 c.in-Err.field-0.refusal
+    (ap (λ t. t.number) c.in-Err.ensures.answer ∙ ap (λ k. (settles k).answer.number) c.grant_collector_times.ensures.crew ∙ accepted))
