@@ -1,6 +1,6 @@
 /* The collecting line for C: the nine calls over memory that the caller lends for the time of each call.
  *
- * Link with libcline.a (tools/c_example builds it at target/staticlib). docs/RULES.md has the rules and the numbers of refusals.
+ * Link with libcline.a (tools/c_example builds it at crates/cline/out). docs/RULES.md has the rules and the numbers of refusals.
  *
  *   board   any bytes; word k of the line lies little-endian at byte 8k. A line of n lanes with K cells takes 1 + 3n + nK words.
  *   trays   n + 1 + nK tickets. Tray n is the collector's hand: what was delivered last lies there.
