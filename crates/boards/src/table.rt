@@ -1,6 +1,6 @@
 //! A board that owns its words.
 
-ghost use Rattle.std.specs.Prelude.{◌≡◌, [], length, replicate};
+ghost use Rattle.std.specs.Prelude.{◌≡◌, length, replicate};
 
 use crate::board::{Board, EMPTY, STAMP_LIMIT};
 
@@ -28,8 +28,6 @@ impl Table {
 
 impl Board for Table {
     ghost words = { λ table. table.values };
-
-    ghost home = { λ _. (0, []) };
 
     fn len(&self) -> usize {
         TABLE_WORDS
