@@ -12,16 +12,16 @@ pub length_words : (bs : List ℕ) → length (words_of bs) ≡ word_count bs
 unfolding words_of
 length_words bs = length-map-range_with_len (word_at bs) 0 (word_count bs)
 
-pub get_d_words : (bs : List ℕ) (k d : ℕ) → k < word_count bs → get_or (words_of bs) k d ≡ word_at bs k
+pub get_or_words : (bs : List ℕ) (k d : ℕ) → k < word_count bs → get_or (words_of bs) k d ≡ word_at bs k
 unfolding words_of
-get_d_words bs k d h = get_or-map-range_with_len (word_at bs) 0 (word_count bs) k k d h (omega arith)
+get_or_words bs k d h = get_or-map-range_with_len (word_at bs) 0 (word_count bs) k k d h (omega arith)
 
 -- what a read of word k gave is word k
 pub word_read : (bs : List ℕ) (k r : ℕ) → k < word_count bs → r ≡ word_at bs k → get_or (words_of bs) k 0 ≡ r
-word_read bs k r there read = get_d_words bs k 0 there ∙ sym read
+word_read bs k r there read = get_or_words bs k 0 there ∙ sym read
 
 pub reads : (bs : List ℕ) → ReadsAs bs (words_of bs)
-reads bs = record { count = length_words bs; each = get_d_words bs }
+reads bs = record { count = length_words bs; each = get_or_words bs }
 
 -- the eight bytes of a 64-bit number, the least first
 abbrev pub eight_bytes : ℕ → List ℕ
@@ -78,10 +78,10 @@ module _ (bs vs : List ℕ) (k : ℕ) (there : k < word_count bs) (eight : lengt
       (count ∙ sym (length-set (words_of bs) k (value vs) ∙ length_words bs))
       (λ j d below.
       let inside : j < word_count bs = omega (arith, count) in
-      get_d_words (written bs vs k) j d (omega (arith, length_written))
+      get_or_words (written bs vs k) j d (omega (arith, length_written))
       ∙ ⊎_elim
       (λ eq. ap (word_at (written bs vs k)) eq ∙ word_here ∙ sym (ap (λ i. get_or (set (words_of bs) k (value vs)) i d) eq ∙ get_or-set_same (words_of bs) k (value vs) d (omega (arith, length_words bs))))
-      (λ ne. word_other j ne ∙ sym (get_or-set_other (words_of bs) k j (value vs) d ne ∙ get_d_words bs j d inside))
+      (λ ne. word_other j ne ∙ sym (get_or-set_other (words_of bs) k j (value vs) d ne ∙ get_or_words bs j d inside))
       (cases_eq j k))
     where
       count : length (words_of (written bs vs k)) ≡ word_count bs

@@ -169,8 +169,8 @@ module _ {P : Type 0} (s : LineModel) (h : ModelOk s) (G : Goods P) (k : Book P)
           → (ws : List (Waiting P)) → k.waiting r ≡ ws → Goal ws
       frees_past g y e wg ends (inr (_, n)) pg ws w = let z : ◌≡◌ {A = ℕ} 0 1 = cc (first_kept (s.lanes r).ring refl) in absurd (omega arith)
       frees_past g y e wg ends (inl (st, n)) pg ws w =
-          let ring-is = first_kept (s.lanes r).ring refl in
-          let a : Match r G.load s.took (s.lanes r).ended ws (front (m ∷ rest_of (s.lanes r).ring)) = subst (λ (R : List ℕ). Match r G.load s.took (s.lanes r).ended ws R) (ap (waits (s.lanes r).ring) e ∙ wg (s.lanes r).ring ∙ ap front ring-is) (rw w at (t.lanes r below).waits) in
+          let ring_is = first_kept (s.lanes r).ring refl in
+          let a : Match r G.load s.took (s.lanes r).ended ws (front (m ∷ rest_of (s.lanes r).ring)) = subst (λ (R : List ℕ). Match r G.load s.took (s.lanes r).ended ws R) (ap (waits (s.lanes r).ring) e ∙ wg (s.lanes r).ring ∙ ap front ring_is) (rw w at (t.lanes r below).waits) in
           elim (front_cons m (rest_of (s.lanes r).ring)) [
             | inl (u, v) ↦ more ws w (rw u at a) v
             | inr (u, v) ↦ own ws w (rw u at a) v
@@ -189,9 +189,9 @@ module _ {P : Type 0} (s : LineModel) (h : ModelOk s) (G : Goods P) (k : Book P)
           own : (ws : List (Waiting P)) → k.waiting r ≡ ws → Match r G.load s.took (s.lanes r).ended ws [] → rest_of (s.lanes r).ring ≡ [] → Goal ws
           own (u ∷ ws) w a v = absurd a
           own [] w a v =
-              let ring-is : (s.lanes r).ring ≡ m ∷ [] = first_kept (s.lanes r).ring refl ∙ ap (λ (R : List ℕ). m ∷ R) v in
-              let m-is : m ≡ y = rw ring-is at ends in (
-                own_frame (k.posts r) st m-is,
+              let ring_is : (s.lanes r).ring ≡ m ∷ [] = first_kept (s.lanes r).ring refl ∙ ap (λ (R : List ℕ). m ∷ R) v in
+              let m_is : m ≡ y = rw ring_is at ends in (
+                own_frame (k.posts r) st m_is,
                 freed_tied (upd k.posts r (post-goes (k.posts r))) k.waiting (post-goes (k.posts r)) [] (λ q n. rw (ne_eqb q r n) refl) (λ q n. refl) (rw (eq-eqb r r refl) refl) w
                     (rw (e, wg (rest_of (s.lanes r).ring), v) tt)
                     (rw e (pg (rest_of (s.lanes r).ring) (post-goes (k.posts r)) (inr (is_gone (k.posts r) st, v)))),

@@ -95,10 +95,10 @@ module _ {P : Type 0} (n K : ℕ) (S : State P) (g : Log P) (k : Book P) (v : Sa
       (λ b ib. m.words b ib ∙ same_memory s (moved s s.lanes q) refl refl b) m.goods (λ i b. (refl, refl)) m.heads) o st lg
 
   -- how the grants go on
-  abbrev Goes_on : Progress → Type 0
-  Goes_on q = (x : ℕ) → Few s.n x s.col → Few s.n (suc x) q × (suc x < most_collect_grants s.n)
+  abbrev GoesOn : Progress → Type 0
+  GoesOn q = (x : ℕ) → Few s.n x s.col → Few s.n (suc x) q × (suc x < most_collect_grants s.n)
 
-  moves_on : (q : Progress) (at : CollectStage) → progress_of at ≡ q → ModelOk (moved s s.lanes q) → CollectTie s.began G.fetched G.load q k.collect → Goes_on q
+  moves_on : (q : Progress) (at : CollectStage) → progress_of at ≡ q → ModelOk (moved s s.lanes q) → CollectTie s.began G.fetched G.load q k.collect → GoesOn q
       → Leaves n K g k stepped_collector (state_of S.words S.trays (with_collector c c.heads (collector at grants) c.delivered))
   moves_on q at col o t few =
       loads stepped_collector q at grants c.delivered col o (goes_on s v.ok G k v.tied q t)
@@ -330,16 +330,16 @@ module _ {P : Type 0} (n K : ℕ) (S : State P) (g : Log P) (k : Book P) (v : Sa
           let l' = freeing s.K (s.lanes best.lane) in
           let s' = moved s (upd s.lanes best.lane l') (looking best.lane First best.stamp) in
           let h = next_head best in
-          let h-is : h ≡ l'.heads = cc (m.heads best.lane low, m.cells) in
+          let h_is : h ≡ l'.heads = cc (m.heads best.lane low, m.cells) in
           leaves n K g k (state_of (set S.words (word_of sh (Head best.lane)) h) S.trays (with_collector c (set c.heads best.lane h) (collector (SeeSlot First best) grants) c.delivered))
           (freed best.lane best.stamp y) s' G v.n_is v.KIs
           (mirror_collector S s G m (set S.words (word_of sh (Head best.lane)) h) S.trays (set c.heads best.lane h) (collector (SeeSlot First best) grants) c.delivered s' G refl refl refl
           (length-set S.words (word_of sh (Head best.lane)) h) refl (length-set c.heads best.lane h ∙ m.heads_long)
           (words_written sh S.words m.board (Head best.lane) h (memory s) (memory s') (in_shape best.lane low)
-          (ap (λ (z : LaneModel). z.heads) (upd_same s.lanes best.lane l') ∙ sym h-is)
+          (ap (λ (z : LaneModel). z.heads) (upd_same s.lanes best.lane l') ∙ sym h_is)
           (lane_memory s.lanes best.lane l' s s' (Head best.lane) refl refl refl (λ z. refl) (λ z. absurd (z refl)) (λ z. refl) (λ i z. refl)) m.words)
           m.goods (λ q b. (field_here s.lanes best.lane l' (λ (z : LaneModel). z.tails) q (λ _. refl), field_here s.lanes best.lane l' (λ (z : LaneModel). z.stage) q (λ _. refl)))
-          (λ q b. new_heads best.lane low l' h h-is q b))
+          (λ q b. new_heads best.lane low l' h h_is q b))
           o st
           (ledger_freed s c.posted c.delivered g k v.ledger s' refl refl (λ q. field_here s.lanes best.lane l' (λ (z : LaneModel). z.stage) q (λ _. refl))
           (λ x f. let f' : x ≤ 2 * s.n = few_at (frees best.lane best.stamp) e x f in (omega arith, omega arith)) best.lane best.stamp y st.admits)
@@ -364,8 +364,8 @@ module _ {P : Type 0} (n K : ℕ) (S : State P) (g : Log P) (k : Book P) (v : Sa
       let low : best.lane < s.n = rw e at v.ok.cols in
       let w : loaded S.words (word_of sh (Tail best.lane)) ≡ (s.lanes best.lane).tails = m.words (Tail best.lane) (in_shape best.lane low) in
       let o : LaneOk s.K s.counter s.now s.took (s.lanes best.lane) (view s.col best.lane) = v.ok.posts best.lane in
-      let tl-below : (s.lanes best.lane).tails < s.K = tails_below s.K s.counter s.now s.took (s.lanes best.lane) (view s.col best.lane) o in
-      let small : (s.lanes best.lane).tails % s.K ≡ (s.lanes best.lane).tails = mod-eq_of_lt tl-below in
+      let tl_below : (s.lanes best.lane).tails < s.K = tails_below s.K s.counter s.now s.took (s.lanes best.lane) (view s.col best.lane) o in
+      let small : (s.lanes best.lane).tails % s.K ≡ (s.lanes best.lane).tails = mod-eq_of_lt tl_below in
       let same : eqb (loaded S.words (word_of sh (Tail best.lane)) % sh.cells) (head_of c.heads best.lane) ≡ eqb (s.lanes best.lane).tails (s.lanes best.lane).heads = cc (w, small, m.cells, m.heads best.lane low) in
       subst (λ (b : Bool). Result (SeeTail j best seen) (cond b (Goes (RefreshSlot j best seen empty_word)) (Goes (SeeFront j best seen))) S.words S.trays) (sym same)
       (both (eqb (s.lanes best.lane).tails (s.lanes best.lane).heads) (model_on (tailing best.lane j best.stamp seen) e))

@@ -48,9 +48,9 @@ pub record Step {P : Type 0} (s : LineModel) (G : Goods P) (k : Book P) (e : Eve
   pub admits : Admits (capacity s.K) k e
   pub tied : Tied s G (book_step k e)
 
-module _ {P : Type 0} (took took' : ℕ → ℕ) (load load' : ℕ → Option P) (counter : ℕ) (same-took : (x : ℕ) → x < counter → took' x ≡ took x) (same_load : (x : ℕ) → x < counter → load' x ≡ load x) where
+module _ {P : Type 0} (took took' : ℕ → ℕ) (load load' : ℕ → Option P) (counter : ℕ) (same_took : (x : ℕ) → x < counter → took' x ≡ took x) (same_load : (x : ℕ) → x < counter → load' x ≡ load x) where
   stamped_on : (s : ℕ) (p : Post P) → s < counter → Stamped took load s p → Stamped took' load' s p
-  stamped_on s p l (b, x, t, e, f, g) = (b, x, t, e, same_load s l ∙ f, same-took s l ∙ g)
+  stamped_on s p l (b, x, t, e, f, g) = (b, x, t, e, same_load s l ∙ f, same_took s l ∙ g)
 
   past_on : (R : List ℕ) (s : ℕ) (p : Post P) → s < counter → Past took load R s p → Past took' load' R s p
   past_on R s p l (inl (a, n)) = inl (stamped_on s p l a, n)
@@ -77,7 +77,7 @@ module _ {P : Type 0} (took took' : ℕ → ℕ) (load load' : ℕ → Option P)
       record {
         waits =
             match_on r load load' took took' l.ended l.ended ws (waits l.ring l.stage)
-            (All-weaker (λ x. x < counter) (Same r load load' took took' l.ended l.ended) (λ x b. (same_load x b, same-took x b, refl)) (waits l.ring l.stage) (waits_all (λ x. x < counter) l.ring l.stage low))
+            (All-weaker (λ x. x < counter) (Same r load load' took took' l.ended l.ended) (λ x b. (same_load x b, same_took x b, refl)) (waits l.ring l.stage) (waits_all (λ x. x < counter) l.ring l.stage low))
             h.waits;
         carries = carries_on K l.freed tray load load' l.ring (All-weaker (λ x. x < counter) (λ x. load' x ≡ load x) (λ x b. same_load x b) l.ring low) h.carries;
         post = post_tie_on K (whole l.ring c) (length l.ring) l.cell hand tray l.ring l.tails l.stage p o.stage h.post;
@@ -194,9 +194,9 @@ module _ {P : Type 0} (s : LineModel) (h : ModelOk s) (G : Goods P) (k : Book P)
     takes_as p e (b, x, f, y) g =
         let load' = upd G.load s.counter (G.hand r) in
         let took' = upd s.took s.counter s.now in
-        let same-took : (x : ℕ) → x < s.counter → took' x ≡ s.took x = λ x q. rw (ne_eqb x s.counter (omega arith)) refl in
+        let same_took : (x : ℕ) → x < s.counter → took' x ≡ s.took x = λ x q. rw (ne_eqb x s.counter (omega arith)) refl in
         let same_load : (x : ℕ) → x < s.counter → load' x ≡ G.load x = λ x q. rw (ne_eqb x s.counter (omega arith)) refl in
-        let on = λ (q : ℕ) (b : q < s.n). lane_tie_on s.took took' G.load load' s.counter same-took same_load q s.K s.now (G.hand q) (G.tray q) (s.lanes q) (view s.col q) (k.posts q) (k.waiting q) (h.posts q) (t.lanes q b) in
+        let on = λ (q : ℕ) (b : q < s.n). lane_tie_on s.took took' G.load load' s.counter same_took same_load q s.K s.now (G.hand q) (G.tray q) (s.lanes q) (view s.col q) (k.posts q) (k.waiting q) (h.posts q) (t.lanes q b) in
         subst (λ (p : Post P). Tied (taken s r) (with_load G s.counter (G.hand r)) (book_take k r s.counter p)) (sym f)
         (record {
           now = ap suc t.now;

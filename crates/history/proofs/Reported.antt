@@ -164,7 +164,7 @@ module _ {P : Type 0} (n K : ℕ) (S : State P) (g : Log P) (k : Book P) (v : Sa
       let ok : LaneOk s.K s.counter s.now s.took (s.lanes q) (view s.col q) = v.ok.posts q in
       let hb = heads_below s.K s.counter s.now s.took (s.lanes q) (view s.col q) ok in
       let tb = tails_below s.K s.counter s.now s.took (s.lanes q) (view s.col q) ok in
-      let zero-fill : ((row_of S.crew q).tail + S.crew.shape.cells - head_of S.crew.heads q) % S.crew.shape.cells ≡ 0 = eqb-true (fill_of S.crew q) 0 b in
+      let zero_fill : ((row_of S.crew q).tail + S.crew.shape.cells - head_of S.crew.heads q) % S.crew.shape.cells ≡ 0 = eqb-true (fill_of S.crew q) 0 b in
       let fill : ((s.lanes q).tails + s.K - (s.lanes q).heads) % s.K ≡ 0 = cc (tie.tail, v.mirror.cells, v.mirror.heads q h) in
       is_empty s.K s.counter s.now s.took (s.lanes q) (view s.col q) ok (s.lanes q).ring refl (tail_at_head s.K (s.lanes q).tails (s.lanes q).heads tb hb fill)
 

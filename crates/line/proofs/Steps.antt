@@ -76,13 +76,13 @@ module _ {P : Type 0} (ws : List ℕ) (ps : List P) (c : Core) (lane : ℕ) (row
       answer ≡ lane_answer own w → row' ≡ row_after own w → posted ≡ posted_after c.posted answer →
       Gives (lane_steps ws ps c lane row (lane_access lane row row.stage)) (lane_told answer) ws' ps' (with_row c lane row' posted)
   steps own a w answer ws' ps' row' posted own_is a-is w-is ws-is ps-is answer-is row_is posted_is =
-      let a-row : a ≡ lane_access lane row row.stage = a-is ∙ ap (λ r. lane_access lane r r.stage) own_is in
-      let w-row : w ≡ word_read c.shape (lane_access lane row row.stage) ws = w-is ∙ ap (λ x. word_read c.shape x ws) a-row in
-      let told-row : answer ≡ lane_answer row (word_read c.shape (lane_access lane row row.stage) ws) = answer-is ∙ ap (λ r. lane_answer r w) own_is ∙ ap (lane_answer row) w-row in
-      let next_row : row' ≡ row_after row (word_read c.shape (lane_access lane row row.stage) ws) = row_is ∙ ap (λ r. row_after r w) own_is ∙ ap (row_after row) w-row in
+      let a_row : a ≡ lane_access lane row row.stage = a-is ∙ ap (λ r. lane_access lane r r.stage) own_is in
+      let w_row : w ≡ word_read c.shape (lane_access lane row row.stage) ws = w-is ∙ ap (λ x. word_read c.shape x ws) a_row in
+      let told_row : answer ≡ lane_answer row (word_read c.shape (lane_access lane row row.stage) ws) = answer-is ∙ ap (λ r. lane_answer r w) own_is ∙ ap (lane_answer row) w_row in
+      let next_row : row' ≡ row_after row (word_read c.shape (lane_access lane row row.stage) ws) = row_is ∙ ap (λ r. row_after r w) own_is ∙ ap (row_after row) w_row in
       record {
-        answer = ap lane_told told-row;
-        board = ws-is ∙ ap (λ x. words_after c.shape x ws) a-row;
-        trays = ps-is ∙ ap (λ x. trays_after c.shape x ps) a-row;
-        crew = ap (λ r. with_row c lane r posted) next_row ∙ ap (λ n. with_row c lane (row_after row (word_read c.shape (lane_access lane row row.stage) ws)) n) (posted_is ∙ ap (posted_after c.posted) told-row);
+        answer = ap lane_told told_row;
+        board = ws-is ∙ ap (λ x. words_after c.shape x ws) a_row;
+        trays = ps-is ∙ ap (λ x. trays_after c.shape x ps) a_row;
+        crew = ap (λ r. with_row c lane r posted) next_row ∙ ap (λ n. with_row c lane (row_after row (word_read c.shape (lane_access lane row row.stage) ws)) n) (posted_is ∙ ap (posted_after c.posted) told_row);
       }

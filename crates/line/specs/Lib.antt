@@ -8,3 +8,4 @@ pub mod Collect
 pub mod Crew
 pub mod Calls
 pub mod Laws
+pub mod Receipts

@@ -1,5 +1,5 @@
 //! The receipt of a collect that was begun.
-ghost use Rattle.std.specs.Prelude.{◌≡◌, true, false};
+ghost use Rattle.line.specs.Receipts.{IsSettled};
 
 use crate::answer::Refusal;
 
@@ -12,7 +12,7 @@ pub struct Receipt {
 /// A receipt may be let go only if it says that its collect is settled, so nobody can.
 impl Drop for Receipt {
     fn drop(self)
-        requires { self.settled ≡ true }
+        requires { IsSettled self }
     {
         let Receipt { settled: _ } = self;
     }
@@ -21,7 +21,7 @@ impl Drop for Receipt {
 impl Receipt {
     /// The receipt of a collect that has just begun.
     pub(crate) fn new() -> Receipt
-        ensures { result.settled ≡ false }
+        ensures { ¬ (IsSettled result) }
     {
         Receipt { settled: false }
     }

@@ -48,20 +48,16 @@ fn check_all(rt: &impl Abort, heap: Global, table: &[(&[u8], &str)]) -> Result<(
 
 #[test]
 fn ticket_scripts(rt: HostRuntime) -> Result<(), Fail> {
-    let whole: &[u8] =
-        b"\x10\0\x01\0\x01\0\x02\0\0\0\0\0\0\0\0\0\x12\0\x03\0\0\0\x07\0\0\0\x08\0\0\0\x09\0\0\0\x08\0\x05\0\0\0\x0d\0\x04\0\x06\0\x06\0\x07\0\x0b\0\x04\0\x08\0\x04\0\x09\0\x04\0\x0a\0";
-    let open_collect: &[u8] =
-        b"\x10\0\x01\0\x01\0\x02\0\0\0\0\0\0\0\0\0\x04\0\x06\0\x04\0\x06\0\x04\0\x08\0\x07\0\x06\0";
     check_all(
         &rt,
         rt.alloc(),
         &[
             (
-                whole,
+                WHOLE,
                 "laid;begun;L0 posted 0 9;begun;C delivered 0 0 6;settled;draining;report 1 1;",
             ),
             (
-                open_collect,
+                OPEN_COLLECT,
                 "laid;begun;refused 10;refused 12;fault 14 at 28;",
             ),
             (b"", ""),
@@ -71,49 +67,24 @@ fn ticket_scripts(rt: HostRuntime) -> Result<(), Fail> {
 
 #[test]
 fn note_scripts(rt: HostRuntime) -> Result<(), Fail> {
-    let posts: &[u8] =
-        b"\x10\0\x02\0\x01\0\x02\0\0\0\0\0\0\0\0\0\x0c\0\x04\0\0\0\x01\0\0\0\xc0\x3f\x08\0\x05\0\0\0\x01\0\x08\0\x05\0\0\0\x0d\0\x0c\0\x04\0\0\0\x04\0\x01\0\0\0\x08\0\x05\0\0\0\x0d\0\x08\0\x05\0\x01\0\x01\0\x04\0\x0a\0";
-    let refused: &[u8] =
-        b"\x10\0\x02\0\x11\0\x02\0\0\0\0\0\0\0\0\0\x04\0\x08\0\x0c\0\x04\0\0\0\x01\0\0\0\x80\x7f";
     check_all(
         &rt,
         rt.alloc(),
         &[
             (
-                posts,
+                FULL,
                 "laid;begun;L0 on;L0 posted 0 9;begun;L0 refused 8 1;refused 5;fault 16 at 72;",
             ),
-            (refused, "refused 1;refused 4;fault 17 at 20;"),
+            (NEVER_LAID, "refused 1;refused 4;fault 17 at 20;"),
         ],
     )
 }
 
 #[test]
-fn scripts(rt: HostRuntime) -> Result<(), Fail> {
-    let table = [
-        (
-            WHOLE,
-            "laid;begun;L0 posted 0 9;begun;C delivered 0 0 6;settled;draining;report 1 1;",
-        ),
-        (
-            OPEN_COLLECT,
-            "laid;begun;refused 10;refused 12;fault 14 at 28;",
-        ),
-        (
-            FULL,
-            "laid;begun;L0 on;L0 posted 0 9;begun;L0 refused 8 1;refused 5;fault 16 at 72;",
-        ),
-        (NEVER_LAID, "refused 1;refused 4;fault 17 at 20;"),
-        (
-            USED_UP,
-            "laid;begun;refused 6;L0 refused 9 2;refused 7;refused 11;refused 11;begun;draining;refused 13;fault 15 at 78;",
-        ),
-        (b"", ""),
-    ];
-    for row in &table {
-        assert_eq!(rt; printed(rt.alloc(), row.0)?.as_str(), row.1);
-    }
-    Ok(())
+fn script_of_used_up_stamps(rt: HostRuntime) -> Result<(), Fail> {
+    let lines =
+        "laid;begun;refused 6;L0 refused 9 2;refused 7;refused 11;refused 11;begun;draining;refused 13;fault 15 at 78;";
+    check_all(&rt, rt.alloc(), &[(USED_UP, lines)])
 }
 
 /// Checks one script after another against what it must print in words.

@@ -222,18 +222,18 @@ module _ {P : Type 0} (cap : ℕ) (g : Log P) (k : Book P) (v : Kept cap g k) (w
       (λ x y i j n f p q.
       let (d, di, db, da) = ended_act x i in
       let (e, ei, eb, ea) = ended_act y j in
-      let d-f : In f (frame_posted d.operation) = agrees_posted d.operation f (subst (Agrees d.operation) (in_put_in f x.did p) da) in
-      let e-f : In f (frame_posted e.operation) = agrees_posted e.operation f (subst (Agrees e.operation) (in_put_in f y.did q) ea) in
+      let d_f : In f (frame_posted d.operation) = agrees_posted d.operation f (subst (Agrees d.operation) (in_put_in f x.did p) da) in
+      let e_f : In f (frame_posted e.operation) = agrees_posted e.operation f (subst (Agrees e.operation) (in_put_in f y.did q) ea) in
       elim (two_in (Disjoint (λ (d : Ended P). frame_posted d.operation)) d e ds (disjoint_from (λ (d : Ended P). frame_posted d.operation) ds distinct_posted) di ei) [
         | inl z ↦ n (sym db ∙ (ap (λ (d : Ended P). d.began) z ∙ eb))
-        | inr (inl z) ↦ z f d-f e-f
-        | inr (inr z) ↦ z f e-f d-f
+        | inr (inl z) ↦ z f d_f e_f
+        | inr (inr z) ↦ z f e_f d_f
       ])
       o.apart)
 
   distinct_delivered : Distinct (frames_delivered ds)
   distinct_delivered =
-      let distinct-out : Distinct (frames_out order) = rw same_frames at distinct_in in
+      let distinct_out : Distinct (frames_out order) = rw same_frames at distinct_in in
       distinct_from (λ (d : Ended P). frame_delivered d.operation) (λ d. one_delivered d.operation) ds
       (pairs_in (λ (d e : Ended P). d.began ≢ e.began) (Disjoint (λ (d : Ended P). frame_delivered d.operation)) ds
       (λ d e i j n f p q.
@@ -241,7 +241,7 @@ module _ {P : Type 0} (cap : ℕ) (g : Log P) (k : Book P) (v : Kept cap g k) (w
       let y : Act P = act_of e.began (delivered f) in
       let xi : In x order = placed_act d (delivered f) i (delivered_agrees d.operation f (honest d i) p) in
       let yi : In y order = placed_act e (delivered f) j (delivered_agrees e.operation f (honest e j) q) in
-      elim (two_in (Disjoint (λ (a : Act P). taken_out a.did)) x y order (disjoint_from (λ (a : Act P). taken_out a.did) order distinct-out) xi yi) [
+      elim (two_in (Disjoint (λ (a : Act P). taken_out a.did)) x y order (disjoint_from (λ (a : Act P). taken_out a.did) order distinct_out) xi yi) [
         | inl z ↦ n (ap (λ (a : Act P). a.began) z)
         | inr (inl z) ↦ z f (inl refl) (inl refl)
         | inr (inr z) ↦ z f (inl refl) (inl refl)

@@ -183,10 +183,10 @@ module _ {P : Type 0} (cap : ℕ) (ds : List (Ended P)) (book : Book P) (v : Pla
   delivered_keeps b n l s f ll ss e =
       let d : Ended P = ends_as b book.now n (collect (some f) (as_delivered l s)) in
       let did : Did P = delivered f in
-      let was-open : CollectOk now_view (holding b f) = rw e at v.core.collector in
+      let was_open : CollectOk now_view (holding b f) = rw e at v.core.collector in
       let placed : In (act_of b did) v.order = v.core.whole (act_of b did) (inr (inl (b, f, e, refl))) in
-      closes cap ds book v book.posts at_rest d refl 0 was-open
-      (λ l. lane_closed cap ds book v book.posts at_rest d l (λ z. omega (arith, was-open.1)))
+      closes cap ds book v book.posts at_rest d refl 0 was_open
+      (λ l. lane_closed cap ds book v book.posts at_rest d l (λ z. omega (arith, was_open.1)))
       tt
       (λ a h. elim h [
         | inl j ↦ inl (ended_old ds d a j)

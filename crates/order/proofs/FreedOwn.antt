@@ -46,7 +46,7 @@ module _ {P : Type 0} where
       let u' : View P = view ds book' o (mid ++ d ∷ []) (back ++ i ∷ []) in
       let was : CollectOk u (looking b) = rw is-looking at c.collector in
       let lane : LaneOk cap u r (length (book.waiting r)) (stamped b₁ y s t) = rw is-stamped at (c.lanes r) in
-      let owner-r : o b₁ ≡ suc r = lane.0.1 in
+      let owner_r : o b₁ ≡ suc r = lane.0.1 in
       let lates : AllByRecursion (After t) back = all_late book t back v.first_stands c.waiting late c.sorted in
       let clear : AllByRecursion (ClearOf r) back = all_clear r b₁ t back lane.3 lates (c.waiting r ∙ is_nil) lane.2 in
       let later : (l u : ℕ) → l ≢ r → fetched_after l u (back ++ i ∷ []) ≡ fetched_after l u back = λ l u m. no_more l u b n f back m in
@@ -56,12 +56,12 @@ module _ {P : Type 0} where
         later = omega arith;
         owned = λ b h. refl;
         unended = λ b o h. h;
-        unplaced = λ c z h. All-push (NotBegunAt c) mid d (put (NotBegunAt c) (λ q. suc_apart l r m (sym owner-r ∙ (ap o q ∙ z))) h) (λ q. let k : suc l ≡ 0 = sym z ∙ (ap o (sym q) ∙ was.0.1) in omega arith);
+        unplaced = λ c z h. All-push (NotBegunAt c) mid d (put (NotBegunAt c) (λ q. suc_apart l r m (sym owner_r ∙ (ap o q ∙ z))) h) (λ q. let k : suc l ≡ 0 = sym z ∙ (ap o (sym q) ∙ was.0.1) in omega arith);
       } in
       frees cap ds book o front e back b f posts' book.waiting
       (record {
         opened = was.0;
-        unplaced = put (NotBegunAt b) (λ q. let k : suc r ≡ 0 = sym owner-r ∙ (ap o q ∙ was.0.1) in omega arith) was.1;
+        unplaced = put (NotBegunAt b) (λ q. let k : suc r ≡ 0 = sym owner_r ∙ (ap o q ∙ was.0.1) in omega arith) was.1;
         its_post = refl;
         fits = omega (arith, lane.5, all_fetched_after r t back lates, ap length is_nil);
         replays = v.split.replays;
@@ -77,7 +77,7 @@ module _ {P : Type 0} where
             ];
         lanes =
             upd_all (λ l p. LaneOk cap u' l (length (book.waiting l)) p) book.posts r p
-            (omega (arith, lane.0.0), owner-r, lane.0.2)
+            (omega (arith, lane.0.0), owner_r, lane.0.2)
             (λ l m. lane_stays u u' cap l (length (book.waiting l)) (length (book.waiting l)) (book.posts l) (keeps l m)
             (λ c h. All-push (RefusedBefore l c) back i h tt) (λ u h. omega (arith, later l u m)) (c.lanes l));
         precede =

@@ -64,12 +64,12 @@ module _
         let n = book.now in
         let d : Act P = act_of b (delivered f) in
         let i : Item P = fetch b f n in
-        let posts-e : Does cap (deliveries rest) e.did (deliveries rest ++ f ∷ []) = rw k.its_post ((λ z. omega (arith, k.fits)), refl) in
-        let front-e : Replays cap [] (front ++ e ∷ []) (deliveries freed_back) =
-        subst (Replays cap [] (front ++ e ∷ [])) (sym (deliveries_append rest (i ∷ []))) (replays_push cap front e [] (deliveries rest) (deliveries rest ++ f ∷ []) k.replays posts-e) in
-        let parts-e : freed_order ≡ (front ++ e ∷ []) ++ acts freed_back =
+        let posts_e : Does cap (deliveries rest) e.did (deliveries rest ++ f ∷ []) = rw k.its_post ((λ z. omega (arith, k.fits)), refl) in
+        let front_e : Replays cap [] (front ++ e ∷ []) (deliveries freed_back) =
+        subst (Replays cap [] (front ++ e ∷ [])) (sym (deliveries_append rest (i ∷ []))) (replays_push cap front e [] (deliveries rest) (deliveries rest ++ f ∷ []) k.replays posts_e) in
+        let parts_e : freed_order ≡ (front ++ e ∷ []) ++ acts freed_back =
         append_assoc front (e ∷ acts rest) (d ∷ []) ∙ (ap (λ (xs : List (Act P)). front ++ e ∷ xs) (sym (acts_append rest (i ∷ []))) ∙ sym (append_assoc front (e ∷ []) (acts freed_back))) in
-        normalise cap ds freed_book owner freed_order freed_back (front ++ e ∷ []) (record { parts = parts-e; replays = front-e })
+        normalise cap ds freed_book owner freed_order freed_back (front ++ e ∷ []) (record { parts = parts_e; replays = front_e })
         (record {
           levels = k.levels;
           waiting = λ l. standing_append l rest (i ∷ []) ∙ (append-nil (standing_of l rest) ∙ k.waiting l);

@@ -133,11 +133,11 @@ module _ {P : Type 0} (cap : ℕ) (g : Log P) (k : Book P) (v : Kept cap g k) wh
           let ts : t ≡ s = cc in
           absurd (ok.2 (frame_of r s p.payload) f refl (sym ts))
       by_state (gone b x t) w (m, h) f =
-          let is-p = same b m x (some t) h in
-          let u : some t ≡ some s = ap (λ (p : Posting P). p.stamp) is-p ∙ i in
+          let is_p = same b m x (some t) h in
+          let u : some t ≡ some s = ap (λ (p : Posting P). p.stamp) is_p ∙ i in
           let ts : t ≡ s = cc in
-          let bp : b ≡ p.began = ap (λ (p : Posting P). p.began) is-p in
-          let xp : x ≡ p.payload = ap (λ (p : Posting P). p.payload) is-p in
+          let bp : b ≡ p.began = ap (λ (p : Posting P). p.began) is_p in
+          let xp : x ≡ p.payload = ap (λ (p : Posting P). p.payload) is_p in
           (r, b, x, t, w, q ∙ sym (λ j. act_of (bp j) (posted (frame_of r (ts j) (xp j)))))
 
   belongs_from : (a : Act P) → Settled g.ended k a → Belongs g its_order a

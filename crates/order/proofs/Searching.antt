@@ -159,12 +159,12 @@ module _ (cap : ℕ) (ds : List (Ended ℕ)) (left : List (Frame ℕ)) where
       let others : List (Act ℕ) = us ++ vs in
       let r' : Pairs Apart (us ++ a ∷ vs) = subst (Pairs Apart) e r in
       let len : length others ≤ n = omega (arith, ap length e, length-append us (a ∷ vs), length-append us vs) in
-      let apart-others : AllByRecursion (λ (z : Act ℕ). z.began ≢ a.began) others =
+      let apart_others : AllByRecursion (λ (z : Act ℕ). z.began ≢ a.began) others =
       All-append (λ (z : Act ℕ). z.began ≢ a.began) us vs (pairs_before Apart us vs a r') (All-weaker (Apart a) (λ (z : Act ℕ). z.began ≢ a.began) (λ z n q. n (sym q)) vs (pairs_behind Apart us vs a r')) in
       let into : (z : Act ℕ) → In z order → In z others =
       λ z k. elim (in_cases z us vs a (subst (In z) e (i z (inr k)))) [ inl w ↦ absurd (all_in (Apart a) z order k pa (ap (λ (x : Act ℕ). x.began) w)) | inr w ↦ w ] in
       let from : (z : Act ℕ) → In z others → In z order =
-      λ z k. elim (j z (subst (In z) (sym e) (in_put z us vs a k))) [ inl w ↦ absurd (all_in (λ (z : Act ℕ). z.began ≢ a.began) z others k apart-others (ap (λ (x : Act ℕ). x.began) (sym w))) | inr w ↦ w ] in
+      λ z k. elim (j z (subst (In z) (sym e) (in_put z us vs a k))) [ inl w ↦ absurd (all_in (λ (z : Act ℕ). z.began ≢ a.began) z others k apart_others (ap (λ (x : Act ℕ). x.began) (sym w))) | inr w ↦ w ] in
       let timely : all (in_time ds a) others ≡ true =
       true_all (in_time ds a) others (all_from_in (λ (y : Act ℕ). in_time ds a y ≡ true) others (λ y k. true_in_time a y ds (all_in (λ (y : Act ℕ). AllByRecursion (λ (d : Ended ℕ). d.began ≡ y.began → a.began ≤ d.ended) ds) y order (from y k) ta))) in
       let ih : arranges n cap ds m others ≡ true = arranged n order m others len into from p (pairs_less Apart us vs a r') t h in

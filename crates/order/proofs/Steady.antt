@@ -123,10 +123,10 @@ module _ {P : Type 0} (cap : ℕ) (ds : List (Ended P)) (book : Book P) (v : Pla
       let o = v.owner in
       let same : (b : ℕ) → b < n → o b ≡ o b = λ b h. refl in
       let now_view = steady_view cap ds book v o ps book.collect (suc s) same in
-      let was-begun : LaneOk cap (view ds book o v.order v.back) r (length (book.waiting r)) (begun b x) = rw e at (c.lanes r) in
-      let is-begun : LaneOk cap now_view r (length (book.waiting r)) (begun b x) = rw e at (lane_steady cap ds book v o ps book.collect (suc s) same r) in
+      let was_begun : LaneOk cap (view ds book o v.order v.back) r (length (book.waiting r)) (begun b x) = rw e at (c.lanes r) in
+      let is_begun : LaneOk cap now_view r (length (book.waiting r)) (begun b x) = rw e at (lane_steady cap ds book v o ps book.collect (suc s) same r) in
       let here : LaneOk cap now_view r (length (book.waiting r)) p =
-      (is-begun.0, is-begun.1, is-begun.2, omega (arith, was-begun.0.0), omega arith, omega (arith, none_fetched r n v.back c.timed)) in
+      (is_begun.0, is_begun.1, is_begun.2, omega (arith, was_begun.0.0), omega arith, omega (arith, none_fetched r n v.back c.timed)) in
       steady cap ds book v o ps book.collect (suc s) same
       (upd_all (λ l p. LaneOk cap now_view l (length (book.waiting l)) p) book.posts r p here (λ l _. lane_steady cap ds book v o ps book.collect (suc s) same l))
       (collect_steady cap ds book v o ps book.collect (suc s) same)

@@ -48,7 +48,7 @@ ended_otherwise (Ended how) b u = refl
 
 -- a settling of an ended collect on a laid line is accepted
 pub ended_settles : (c : Core) → laid c ≡ true → ended c.collector.stage ≡ true → (settles c).answer.number ≡ 0
-ended_settles c is-laid over = ap (λ o. o.answer.number) (cond-true (laid c) (settles_at c c.collector.stage) (refuse_crew c 4) is-laid) ∙ at c.collector.stage over
+ended_settles c is_laid over = ap (λ o. o.answer.number) (cond-true (laid c) (settles_at c c.collector.stage) (refuse_crew c 4) is_laid) ∙ at c.collector.stage over
   where
     at : (stage : CollectStage) → ended stage ≡ true → (settles_at c stage).answer.number ≡ 0
     at Idle h = absurd (both_ways false refl h)
@@ -100,8 +100,8 @@ module _ {P : Type 0} where
       let access = collector_access c.shape c.heads c.collector.stage in
       let w = word_read c.shape access ws in
       let next = collector_next c.shape c.heads c.collector.stage w in
-      let is-laid = r.laid_first (begun_under_way c.collector.stage going) in
-      let step : grants_collector ws ps c ≡ collector_steps ws ps c access = passed (refuse ws ps c) (collector_grant_tests ws ps c) (collector_steps ws ps c access) (is-laid, (r.room is-laid, (going, tt))) in
+      let is_laid = r.laid_first (begun_under_way c.collector.stage going) in
+      let step : grants_collector ws ps c ≡ collector_steps ws ps c access = passed (refuse ws ps c) (collector_grant_tests ws ps c) (collector_steps ws ps c access) (is_laid, (r.room is_laid, (going, tt))) in
       let ready = grants_collector_ready held ws ps c r in
       subst (Over times) (sym step)
       (after_next ws ps c access times c.shape.lanes (suc m) _ next (on_or_ended c.shape c.heads c.collector.stage w going) (h w)

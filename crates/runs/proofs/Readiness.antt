@@ -84,12 +84,12 @@ module _ {P : Type 0} where
   -- what lanes do leaves a run ready
   pub spared_ready : (held : Option Receipt) (ws ws' : List ℕ) (ps ps' : List P) (c c' : Core) → Spares ws ps c ws' ps' c' → Ready held ws ps c → Ready held ws' ps' c'
   spared_ready held ws ws' ps ps' c c' same r =
-      let stage-same : begun c'.collector.stage ≡ begun c.collector.stage = ap (λ k. begun k.stage) same.collector in
+      let stage_same : begun c'.collector.stage ≡ begun c.collector.stage = ap (λ k. begun k.stage) same.collector in
       let laid_same : laid c' ≡ laid c = ap (λ s. ltb 0 s.lanes) same.shape in
       record {
-        receipt = r.receipt ∙ sym stage-same;
+        receipt = r.receipt ∙ sym stage_same;
         few = subst (λ (s : Shape). s.lanes ≤ 16) (sym same.shape) r.few;
-        laid_first = λ h. laid_same ∙ r.laid_first (sym stage-same ∙ h);
+        laid_first = λ h. laid_same ∙ r.laid_first (sym stage_same ∙ h);
         room = λ h. ap (λ s. leb (words_needed s) (length ws') && leb (trays_needed s) (length ps')) same.shape ∙ ap (λ n. leb (words_needed c.shape) n && leb (trays_needed c.shape) (length ps')) same.board ∙ ap (λ n. leb (words_needed c.shape) (length ws) && leb (trays_needed c.shape) n) same.trays ∙ r.room (sym laid_same ∙ h);
         ends = λ h. moved (r.ends (sym (ap (λ k. under_way k.stage) same.collector) ∙ h));
       }
@@ -114,13 +114,13 @@ module _ {P : Type 0} where
       let k = c.collector in
       let w = word_read s access ws in
       let next = collector_next s c.heads k.stage w in
-      let is-begun : begun k.stage ≡ true = begun_under_way k.stage going in
+      let is_begun : begun k.stage ≡ true = begun_under_way k.stage going in
       let still : begun (collector_at (one_more k.grants) next).stage ≡ true = begun_still next (one_more k.grants) (on_or_ended s c.heads k.stage w going) in
       let e = r.ends going in
       record {
-        receipt = r.receipt ∙ is-begun ∙ sym still;
+        receipt = r.receipt ∙ is_begun ∙ sym still;
         few = r.few;
-        laid_first = λ _. r.laid_first is-begun;
+        laid_first = λ _. r.laid_first is_begun;
         room = λ h. ap (λ n. leb (words_needed s) n && leb (trays_needed s) (length (trays_after s access ps))) (length_words_after s access ws) ∙ ap (λ n. leb (words_needed s) (length ws) && leb (trays_needed s) n) (length_trays_after s access ps) ∙ r.room h;
         ends = ending_goes_on s c.heads e.0 e.1 k w e.2 e.3;
       }

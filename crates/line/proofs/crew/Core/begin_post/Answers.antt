@@ -40,10 +40,10 @@ returns-in_default g c =
     let crew = c.args.self.now in
     let lane = c.args.lane in
     let stage = (row_of crew lane).stage in
-    let not-at-rest : (row_of crew lane).stage ≡ AtRest → ⊥ = search rules in
+    let not_at_rest : (row_of crew lane).stage ≡ AtRest → ⊥ = search rules in
     record {
       step = λ ws. post_refused ws ps crew lane c.args.payload 3
-          (lt-ltb 0 crew.shape.lanes (omega arith), (le-leb (trays_needed crew.shape) (length ps) (omega arith), (lt-ltb lane crew.shape.lanes (omega arith), ap not (busy_unless_at_rest stage not-at-rest))));
+          (lt-ltb 0 crew.shape.lanes (omega arith), (le-leb (trays_needed crew.shape) (length ps) (omega arith), (lt-ltb lane crew.shape.lanes (omega arith), ap not (busy_unless_at_rest stage not_at_rest))));
       keeps = kept crew;
     }
 

@@ -71,8 +71,8 @@ returns g c =
     let crew = c.args.self.now in
     let lane = c.args.lane in
     let made = c.in-Some.ensures in
-    let is-busy : busy (row_of crew lane).stage ≡ true = sym (ap (λ r. busy r.stage) made.1) ∙ busy_unless_at_rest _ c.in_default-stage.not-AtRest in
-    let passes = lane_grant_passes ws ps crew lane (omega arith) (memory_told ws ps crew crew.shape c.len.result true c.len.ensures c.if-not-held_by.ensures) (omega arith) made.0 is-busy in
+    let is_busy : busy (row_of crew lane).stage ≡ true = sym (ap (λ r. busy r.stage) made.1) ∙ busy_unless_at_rest _ c.in_default-stage.not-AtRest in
+    let passes = lane_grant_passes ws ps crew lane (omega arith) (memory_told ws ps crew crew.shape c.len.result true c.len.ensures c.if-not-held_by.ensures) (omega arith) made.0 is_busy in
     record {
       step = gives_same
           (passed (refuse ws ps crew) (lane_grant_tests ws ps crew lane) _ passes)

@@ -60,7 +60,7 @@ returns g c =
     let n = c.args.lanes in
     let k = c.args.cells in
     let holds = memory_told ws ps crew (shape n k) c.len.result true c.len.ensures c.if-not-held_by.ensures in
-    let lanes-are = ap (λ x. x.shape.lanes) c.resting.ensures in
+    let lanes_are = ap (λ x. x.shape.lanes) c.resting.ensures in
     let cells_are = ap (λ x. x.shape.cells) c.resting.ensures in
     record {
       step = gives_same
