@@ -1,11 +1,14 @@
 -- The words that bytes mean: how many there are, and what a write of one word's eight bytes does to them and to the rest.
-use Rattle.std.proofs.Common.{◌≡◌, ℕ, ◌+◌, ◌-◌, ◌*◌, ◌/◌, ◌%◌, ◌^◌, ◌<◌, ◌≤◌, ◌≢◌, List, [], ◌∷◌, length, get_or, take, drop, set, sym, ap, ◌∙◌, ⊎_elim, arith, rules}
+use Rattle.std.proofs.Common.{◌≡◌, ℕ, suc, zero, Some, ◌+◌, ◌-◌, ◌*◌, ◌/◌, ◌%◌, ◌^◌, ◌<◌, ◌≤◌, ◌≢◌, List, [], ◌∷◌, length, get_or, slice_index, take, drop, set, sym, ap, ◌∙◌, ⊎_elim, arith, rules}
 use borrow.Rule.Slice.PartMut.{put_mid}
 use Rattle.std.proofs.lemmas.List.FromFn.{length-map-range_with_len, get_or-map-range_with_len}
-use Rattle.std.proofs.lemmas.List.{places, same_lists, length-set, get_or-set_same, get_or-set_other}
+use Rattle.std.specs.Simd.{first_chunks}
+use Rattle.std.proofs.lemmas.List.{drop_all, drop_more, drop-drop, length-drop, length-take-le, places, same_lists, length-set, get_or-set_same, get_or-set_other}
 use Rattle.std.proofs.lemmas.Slice.{between_is, take-put_mid_below, drop-put_mid, between-put_mid}
 use Rattle.std.proofs.lemmas.Bool.{cases_eq, cases_lt}
 use Rattle.boards.specs.Bytes.{value, word_at, word_count, words_of, rest_of}
+use Rattle.std.specs.List.{slice_get}
+use Rattle.std.proofs.lemmas.Option.{slice_get-get_or, unwrap_or-slice_get}
 use Rattle.boards.specs.Laws.{ReadsAs}
 
 pub length_words : (bs : List ℕ) → length (words_of bs) ≡ word_count bs
@@ -16,12 +19,47 @@ pub get_or_words : (bs : List ℕ) (k d : ℕ) → k < word_count bs → get_or 
 unfolding words_of
 get_or_words bs k d h = get_or-map-range_with_len (word_at bs) 0 (word_count bs) k k d h (omega arith)
 
--- what a read of word k gave is word k
-pub word_read : (bs : List ℕ) (k r : ℕ) → k < word_count bs → r ≡ word_at bs k → get_or (words_of bs) k 0 ≡ r
-word_read bs k r there read = get_or_words bs k 0 there ∙ sym read
-
 pub reads : (bs : List ℕ) → ReadsAs bs (words_of bs)
 reads bs = record { count = length_words bs; each = get_or_words bs }
+
+-- the groups of n numbers: group k is n numbers from n * k on
+pub get_or-first_chunks : (n c k : ℕ) (xs d : List ℕ) → k < c → get_or (first_chunks n c xs) k d ≡ take n (drop (n * k) xs)
+get_or-first_chunks n (suc c) zero xs d h = ap (λ (i : ℕ). take n (drop i xs)) (let e : 0 ≡ n * 0 = omega arith in e)
+get_or-first_chunks n (suc c) (suc k) xs d h =
+    get_or-first_chunks n c k (drop n xs) d (omega arith)
+    ∙ ap (take n) (drop-drop (n * k) n xs ∙ ap (λ (i : ℕ). drop i xs) (let e : n + n * k ≡ n * suc k = grind arith in e))
+get_or-first_chunks n zero k xs d h = absurd (omega arith)
+
+-- the value of n bytes from place i on, byte by byte
+abbrev value_from : ℕ → ℕ → List ℕ → ℕ
+value_from zero i bs = 0
+value_from (suc n) i bs = slice_index bs i + 256 * value_from n (i + 1) bs
+
+value_at : (n i : ℕ) (bs : List ℕ) → i + n ≡ length bs → value (drop i bs) ≡ value_from n i bs
+value_at zero i bs e = ap value (drop_all i bs (omega (arith, e)))
+value_at (suc n) i bs e =
+    ap value (drop_more bs i 0 (omega (arith, e)))
+    ∙ ap (λ v. slice_index bs i + 256 * v) (value_at n (i + 1) bs (omega (arith, e)))
+
+-- the sum that a read of eight bytes makes
+abbrev pub sum_of_eight : List ℕ → ℕ
+sum_of_eight bs =
+    slice_index bs 0 + slice_index bs 1 * 256 + slice_index bs 2 * 65536 + slice_index bs 3 * 16777216 + slice_index bs 4 * 4294967296
+    + slice_index bs 5 * 1099511627776 + slice_index bs 6 * 281474976710656 + slice_index bs 7 * 72057594037927936
+
+value_of_eight : (bs : List ℕ) → length bs ≡ 8 → sum_of_eight bs ≡ value bs
+value_of_eight bs eight = let bytes = value_at 8 0 bs (sym eight) in omega (arith, bytes)
+
+-- word k, read as group k of the bytes
+pub word_read : (bs group : List ℕ) (k : ℕ) → k < word_count bs → group ≡ get_or (first_chunks 8 (word_count bs) bs) k group → {w : ℕ} → w ≡ sum_of_eight group → Some w ≡ slice_get (words_of bs) k
+word_read bs group k there here read =
+    let rest = length-drop (8 * k) bs in
+    let at_k : group ≡ take 8 (drop (8 * k) bs) = here ∙ get_or-first_chunks 8 (word_count bs) k bs group there in
+    ap (λ (w : ℕ). Some w) (read ∙ value_of_eight group (ap length at_k ∙ length-take-le 8 (drop (8 * k) bs) (omega (arith, rest))) ∙ ap value at_k ∙ sym (get_or_words bs k 0 there))
+    ∙ sym (slice_get-get_or (words_of bs) k 0 (omega (arith, length_words bs)))
+
+-- how many words there are, and a word that is there or another answer
+pub ruleset words_found = (length_words, unwrap_or-slice_get)
 
 -- the eight bytes of a 64-bit number, the least first
 abbrev pub eight_bytes : ℕ → List ℕ

@@ -9,12 +9,6 @@ use Rattle.boards.specs.Laws.{TouchesOnly, NoOtherWord, AtWord, Beyond}
 module _ (ws : List ℕ) (k : ℕ) where
   -- a word of the list
 
-  pub load_within : (d : ℕ) → k < length ws → loaded ws k ≡ get_or ws k d
-  load_within d h = get_or_default ws k empty_word d h
-
-  pub load_stored : (v : ℕ) → k < length ws → loaded (stored ws k v) k ≡ v
-  load_stored v h = get_or-set_same ws k v empty_word h
-
   pub swap_yes : (from to : ℕ) → k < length ws → get_or ws k 0 ≡ from → (swaps ws k from ≡ true) × (swapped ws k from to ≡ set ws k to)
   swap_yes from to h e = (grind (arith, nat_tests), grind (arith, nat_tests))
 
@@ -28,12 +22,6 @@ module _ (ws : List ℕ) (k : ℕ) where
   take_full h le = let w = get_or_default ws k 0 stamp_limit h in (grind (arith, nat_tests), grind (arith, nat_tests))
 
   -- beyond the length
-
-  pub load_past : length ws ≤ k → loaded ws k ≡ empty_word
-  load_past h = get_or_past ws k empty_word h
-
-  pub store_past : (v : ℕ) → length ws ≤ k → stored ws k v ≡ ws
-  store_past v h = set_past ws k v h
 
   pub swap_past : (from to : ℕ) → length ws ≤ k → (swaps ws k from ≡ false) × (swapped ws k from to ≡ ws)
   swap_past from to h = (grind (arith, nat_tests), grind (arith, nat_tests))
@@ -66,19 +54,19 @@ module _ (ws : List ℕ) (k : ℕ) where
   pub within : k < length ws → AtWord ws k (get_or ws k 0)
   within h =
       record {
-        load = load_within 0 h;
-        store = λ v. load_stored v h;
-        swap_yes = λ from to e. ((swap_yes from to h e).0, ap (λ after. loaded after k) (swap_yes from to h e).1 ∙ load_stored to h);
+        load = get_or_default ws k empty_word 0 h;
+        store = λ v. get_or-set_same ws k v empty_word h;
+        swap_yes = λ from to e. ((swap_yes from to h e).0, ap (λ after. loaded after k) (swap_yes from to h e).1 ∙ get_or-set_same ws k to empty_word h);
         swap_no = swap_no;
-        take_below = λ lt. ((take_below h lt).0, ap (λ after. loaded after k) (take_below h lt).1 ∙ load_stored (get_or ws k 0 + 1) h);
+        take_below = λ lt. ((take_below h lt).0, ap (λ after. loaded after k) (take_below h lt).1 ∙ get_or-set_same ws k (get_or ws k 0 + 1) empty_word h);
         take_full = take_full h;
       }
 
   pub beyond : length ws ≤ k → Beyond ws k
   beyond h =
       record {
-        load = load_past h;
-        store = λ v. store_past v h;
+        load = get_or_past ws k empty_word h;
+        store = λ v. set_past ws k v h;
         swap = λ from to. swap_past from to h;
         take = take_past h;
       }

@@ -1,8 +1,9 @@
 //! A board over lent bytes.
 
-ghost use Rattle.std.specs.Prelude.{◌≡◌, ◌<◌, length};
+ghost use Rattle.std.specs.Prelude.{◌≡◌, length};
+ghost use Rattle.std.specs.List.{slice_get};
 ghost use Rattle.boards.specs.Words.{loaded, stored, swaps, swapped, taken, raised};
-ghost use Rattle.boards.specs.Bytes.{word_count, word_at, words_of, rest_of, home_of};
+ghost use Rattle.boards.specs.Bytes.{words_of, rest_of, home_of};
 
 use crate::board::{Board, EMPTY, STAMP_LIMIT};
 
@@ -24,10 +25,19 @@ impl<'a> ByteBoard<'a> {
     {
         ByteBoard { bytes }
     }
+
+    /// Word `k`, if it is there.
+    fn word(&self, k: usize) -> Option<u64>
+        ensures { result ≡ slice_get (words_of self.now.bytes.now) k }
+    {
+        let (words, _) = self.bytes.as_chunks::<WORD_BYTES>();
+        Some(u64::from_le_bytes(*words.get(k)?))
+    }
 }
 
 // Beyond what every board promises: `size` and `rest`, the bytes behind the last whole word are as before; `loan`, the board holds
 // the same loan as before; `same`, nothing changes.
+#[tactic(auto, using(crate::proofs::ByteWords::words_found))]
 impl Board for ByteBoard<'_> {
     ghost words = { λ board. words_of board.bytes.now };
 
@@ -44,7 +54,7 @@ impl Board for ByteBoard<'_> {
         ensures answer { result ≡ loaded (words_of self.now.bytes.now) k }
         ensures same { self.exit.now.bytes.now ≡ self.entry.now.bytes.now }
     {
-        load_word(self.bytes, k)
+        self.word(k).unwrap_or(EMPTY)
     }
 
     fn store(&mut self, k: usize, v: u64)
@@ -54,7 +64,10 @@ impl Board for ByteBoard<'_> {
         ensures rest { rest_of self.new.bytes.now ≡ rest_of self.old.bytes.now }
         ensures stays { home_of self.new.bytes.ghost_name self.new.bytes.now ≡ home_of self.old.bytes.ghost_name self.old.bytes.now }
     {
-        store_word(self.bytes, k, v);
+        if k < self.len() {
+            let at = WORD_BYTES * k;
+            self.bytes[at..at + WORD_BYTES].copy_from_slice(&v.to_le_bytes());
+        }
     }
 
     fn swap(&mut self, k: usize, from: u64, to: u64) -> bool
@@ -65,7 +78,13 @@ impl Board for ByteBoard<'_> {
         ensures rest { rest_of self.new.bytes.now ≡ rest_of self.old.bytes.now }
         ensures stays { home_of self.new.bytes.ghost_name self.new.bytes.now ≡ home_of self.old.bytes.ghost_name self.old.bytes.now }
     {
-        swap_word(self.bytes, k, from, to)
+        match self.word(k) {
+            Some(word) if word == from => {
+                self.store(k, to);
+                true
+            }
+            _ => false,
+        }
     }
 
     fn take(&mut self, k: usize) -> u64
@@ -76,81 +95,12 @@ impl Board for ByteBoard<'_> {
         ensures rest { rest_of self.new.bytes.now ≡ rest_of self.old.bytes.now }
         ensures stays { home_of self.new.bytes.ghost_name self.new.bytes.now ≡ home_of self.old.bytes.ghost_name self.old.bytes.now }
     {
-        take_word(self.bytes, k)
+        match self.word(k) {
+            Some(count) if count < STAMP_LIMIT => {
+                self.store(k, count + 1);
+                count
+            }
+            _ => STAMP_LIMIT,
+        }
     }
-}
-
-/// Word `k`. The caller has seen that it is there.
-fn read(bytes: &[u8], k: usize) -> u64
-    requires { k < word_count bytes.now }
-    ensures { result ≡ word_at bytes.now k }
-{
-    let start = WORD_BYTES * k;
-    let mut word = [0; WORD_BYTES];
-    word.copy_from_slice(&bytes[start..start + WORD_BYTES]);
-    u64::from_le_bytes(word)
-}
-
-/// Makes word `k` equal to `v`. The caller has seen that it is there.
-fn write(bytes: &mut [u8], k: usize, v: u64)
-    requires { k < word_count bytes.old }
-    ensures after { words_of bytes.new ≡ stored (words_of bytes.old) k v }
-    ensures rest { rest_of bytes.new ≡ rest_of bytes.old }
-{
-    let at = WORD_BYTES * k;
-    bytes[at..at + WORD_BYTES].copy_from_slice(&v.to_le_bytes());
-}
-
-/// Word `k`, or `EMPTY` beyond the length.
-fn load_word(bytes: &[u8], k: usize) -> u64
-    ensures { result ≡ loaded (words_of bytes.now) k }
-{
-    if k < bytes.len() / WORD_BYTES {
-        read(bytes, k)
-    } else {
-        EMPTY
-    }
-}
-
-/// Makes word `k` equal to `v`, if it is there.
-fn store_word(bytes: &mut [u8], k: usize, v: u64)
-    ensures after { words_of bytes.new ≡ stored (words_of bytes.old) k v }
-    ensures rest { rest_of bytes.new ≡ rest_of bytes.old }
-{
-    if k < bytes.len() / WORD_BYTES {
-        write(bytes, k, v);
-    }
-}
-
-/// Says whether word `k` is there and is `from`, and if so makes it `to`.
-fn swap_word(bytes: &mut [u8], k: usize, from: u64, to: u64) -> bool
-    ensures answer { result ≡ swaps (words_of bytes.old) k from }
-    ensures after { words_of bytes.new ≡ swapped (words_of bytes.old) k from to }
-    ensures rest { rest_of bytes.new ≡ rest_of bytes.old }
-{
-    if k >= bytes.len() / WORD_BYTES {
-        return false;
-    }
-    if read(bytes, k) != from {
-        return false;
-    }
-    write(bytes, k, to);
-    true
-}
-
-/// Answers word `k` and raises it, if it is there and below `STAMP_LIMIT`; otherwise answers `STAMP_LIMIT`.
-fn take_word(bytes: &mut [u8], k: usize) -> u64
-    ensures answer { result ≡ taken (words_of bytes.old) k }
-    ensures after { words_of bytes.new ≡ raised (words_of bytes.old) k }
-    ensures rest { rest_of bytes.new ≡ rest_of bytes.old }
-{
-    if k >= bytes.len() / WORD_BYTES {
-        return STAMP_LIMIT;
-    }
-    let count = read(bytes, k);
-    if count >= STAMP_LIMIT {
-        return STAMP_LIMIT;
-    }
-    write(bytes, k, count + 1);
-    count
 }

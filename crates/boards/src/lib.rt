@@ -1,6 +1,6 @@
 //! Boards: lists of 64-bit words of fixed length, known only by their meaning.
 //!
-//! `Board` says what every board does, `Table` owns its words, and `ByteBoard` finds them in lent bytes.
+//! `Board` says what every board does, `Words` owns its words, a `Table` 1,152 of them, and `ByteBoard` finds them in lent bytes.
 #![tactic(auto)]
 
 mod board;
@@ -14,7 +14,7 @@ pub use laws::{
     every_call_does_its_work, no_call_touches_another_word, nothing_changes_beyond,
     words_are_little_endian,
 };
-pub use table::{TABLE_WORDS, Table};
+pub use table::{TABLE_WORDS, Table, Words};
 
 #[cfg(test)]
 mod tests;

@@ -1,4 +1,4 @@
-//! A board that owns its words.
+//! Boards that own their words.
 
 ghost use Rattle.std.specs.Prelude.{◌≡◌, length, replicate};
 
@@ -8,64 +8,59 @@ use crate::board::{Board, EMPTY, STAMP_LIMIT};
 pub const TABLE_WORDS: usize = 1152;
 
 /// A table of 1,152 words.
+pub type Table = Words<TABLE_WORDS>;
+
+/// A board of `N` words of its own.
 #[derive(Drop)]
-pub struct Table {
+pub struct Words<const N: usize> {
     /// Word `k` of the board at place `k`.
-    values: [u64; TABLE_WORDS],
-    ghost full: { length values ≡ 1152 },
+    values: [u64; N],
+    ghost full: { length values ≡ N },
 }
 
-impl Table {
-    /// A table whose words are all 0.
+impl<const N: usize> Words<N> {
+    /// A board whose words are all 0.
     pub fn new() -> Self
-        ensures { result.values ≡ replicate 1152 0 }
+        ensures { result.values ≡ replicate N 0 }
     {
-        Table {
-            values: [0; TABLE_WORDS],
-        }
+        Words { values: [0; N] }
     }
 }
 
-impl Board for Table {
-    ghost words = { λ table. table.values };
+impl<const N: usize> Board for Words<N> {
+    ghost words = { λ board. board.values };
 
     fn len(&self) -> usize {
-        TABLE_WORDS
+        N
     }
 
     fn load(&self, k: usize) -> u64 {
-        if k < TABLE_WORDS {
-            self.values[k]
-        } else {
-            EMPTY
-        }
+        self.values.get(k).copied().unwrap_or(EMPTY)
     }
 
     fn store(&mut self, k: usize, v: u64) {
-        if k < TABLE_WORDS {
+        if k < N {
             self.values[k] = v;
         }
     }
 
     fn swap(&mut self, k: usize, from: u64, to: u64) -> bool {
-        if k < TABLE_WORDS && self.values[k] == from {
-            self.values[k] = to;
-            true
-        } else {
-            false
+        match self.values.get(k) {
+            Some(word) if *word == from => {
+                self.values[k] = to;
+                true
+            }
+            _ => false,
         }
     }
 
     fn take(&mut self, k: usize) -> u64 {
-        if k >= TABLE_WORDS {
-            return STAMP_LIMIT;
-        }
-        let word = self.values[k];
-        if word < STAMP_LIMIT {
-            self.values[k] = word + 1;
-            word
-        } else {
-            STAMP_LIMIT
+        match self.values.get(k).copied() {
+            Some(count) if count < STAMP_LIMIT => {
+                self.values[k] = count + 1;
+                count
+            }
+            _ => STAMP_LIMIT,
         }
     }
 }

@@ -1,12 +1,8 @@
 //! The camera's own memory, which serves as a board.
-ghost use Rattle.std.specs.Prelude.{◌≡◌, length, take, drop};
 
-use boards::{Board, EMPTY, STAMP_LIMIT};
+use boards::{Board, Words};
 
-/// How many words the memory has.
-const ALL_WORDS: usize = 120;
-
-/// How many words at its front hold the camera's settings and are no part of the board.
+/// How many words at the front of the memory hold the camera's settings and are no part of the board.
 const SETTINGS: usize = 20;
 
 /// How many words the board has.
@@ -15,68 +11,50 @@ const BOARD_WORDS: usize = 100;
 /// The memory of a camera: a page of settings, and behind it the board.
 #[derive(Drop)]
 pub struct CameraRam {
-    values: [u64; ALL_WORDS],
-    ghost full: { length values ≡ 120 },
+    settings: [u64; SETTINGS],
+    board: Words<BOARD_WORDS>,
 }
 
 impl CameraRam {
     /// A memory with nothing but a gain in its settings.
     pub fn new(gain: u64) -> CameraRam {
-        let mut values = [0; ALL_WORDS];
-        values[0] = gain;
-        CameraRam { values }
+        let mut settings = [0; SETTINGS];
+        settings[0] = gain;
+        CameraRam {
+            settings,
+            board: Words::new(),
+        }
     }
 
     /// The gain: the first of the settings.
     pub fn gain(&self) -> u64 {
-        self.values[0]
+        self.settings[0]
     }
 }
 
 impl Board for CameraRam {
-    ghost words = { λ ram. drop 20 ram.values };
+    ghost words = { λ ram. ⟦<Words<100> as Board>⟧.words ram.board };
 
-    ghost home = { λ ram. (0, take 20 ram.values) };
+    // No call of the board changes the settings.
+    ghost home = { λ ram. (0, ram.settings) };
 
     fn len(&self) -> usize {
-        BOARD_WORDS
+        self.board.len()
     }
 
     fn load(&self, k: usize) -> u64 {
-        if k < BOARD_WORDS {
-            self.values[SETTINGS + k]
-        } else {
-            EMPTY
-        }
+        self.board.load(k)
     }
 
     fn store(&mut self, k: usize, v: u64) {
-        if k < BOARD_WORDS {
-            self.values[SETTINGS + k] = v;
-        }
+        self.board.store(k, v);
     }
 
     fn swap(&mut self, k: usize, from: u64, to: u64) -> bool {
-        if k >= BOARD_WORDS {
-            return false;
-        }
-        if self.values[SETTINGS + k] != from {
-            return false;
-        }
-        self.values[SETTINGS + k] = to;
-        true
+        self.board.swap(k, from, to)
     }
 
     fn take(&mut self, k: usize) -> u64 {
-        if k >= BOARD_WORDS {
-            return STAMP_LIMIT;
-        }
-        let next = self.values[SETTINGS + k];
-        if next < STAMP_LIMIT {
-            self.values[SETTINGS + k] = next + 1;
-            next
-        } else {
-            STAMP_LIMIT
-        }
+        self.board.take(k)
     }
 }
