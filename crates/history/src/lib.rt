@@ -10,24 +10,21 @@ ghost use Rattle.history.specs.Promise.{CallsMeetTheGuards, EveryListOfCallsKeep
 ghost use Rattle.history.specs.Stories.{SmallListsTellTheirStory};
 
 /// Every event that a list of calls leaves meets its guard, for payloads of any type.
-pub fn calls_meet_the_guards<P>() -> u8
+pub fn calls_meet_the_guards<P>()
     ensures { CallsMeetTheGuards P }
 {
-    0
 }
 
 /// Whatever list of calls follows a laying, and whatever list follows a drain: the operations stand in a single-file
 /// order, every post ends by its 13th grant and every collect by its grant 2n + 9, and an accepted report gives the
 /// account of what was posted and delivered.
-pub fn every_list_of_calls_keeps_the_promise<P>() -> u8
+pub fn every_list_of_calls_keeps_the_promise<P>()
     ensures { EveryListOfCallsKeepsThePromise P }
 {
-    0
 }
 
 /// Small lists of calls, written out, leave the histories written beside them.
-pub fn small_lists_tell_their_story() -> u8
+pub fn small_lists_tell_their_story()
     ensures { SmallListsTellTheirStory }
 {
-    0
 }
