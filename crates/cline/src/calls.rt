@@ -9,6 +9,7 @@ use crate::held::{Held, is_fit, lay_over};
 use line::crew::{Crew, DrainingCrew};
 use plain_crew::crew::PlainCrew;
 use script::payload::Ticket;
+use std::marker::PhantomData;
 
 /// The numbers mean no crew that could have been laid.
 const NEVER_LAID: u8 = 4;
@@ -36,7 +37,10 @@ pub extern "C" fn cline_lay(
     if core.draining {
         return Answer::refused(OUT_OF_PLACE);
     }
-    let mut open = Crew { core };
+    let mut open = Crew {
+        core,
+        openness: PhantomData,
+    };
     let result = lay_over(&mut open, board, trays, lanes, cells, start);
     *crew = PlainCrew::of(open.core);
     Answer::of_done(result)
@@ -59,7 +63,10 @@ pub extern "C" fn cline_begin_post(
     if core.draining {
         return Answer::refused(OUT_OF_PLACE);
     }
-    let mut open = Crew { core };
+    let mut open = Crew {
+        core,
+        openness: PhantomData,
+    };
     let result = open.begin_post(trays, lane, *ticket);
     *crew = PlainCrew::of(open.core);
     Answer::of_done(result)
@@ -142,7 +149,11 @@ pub extern "C" fn cline_drain(crew: &mut PlainCrew) -> Answer
     if core.draining {
         return Answer::refused(OUT_OF_PLACE);
     }
-    let draining = Crew { core }.drain();
+    let draining = Crew {
+        core,
+        openness: PhantomData,
+    }
+    .drain();
     *crew = PlainCrew::of(draining.core);
     Answer::of_done(Ok(()))
 }
@@ -170,6 +181,9 @@ pub extern "C" fn cline_report(crew: &PlainCrew) -> Answer
     if !core.draining {
         return Answer::refused(OUT_OF_PLACE);
     }
-    let draining = DrainingCrew { core };
+    let draining = DrainingCrew {
+        core,
+        openness: PhantomData,
+    };
     Answer::of_totals(draining.report())
 }

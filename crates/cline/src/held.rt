@@ -10,6 +10,7 @@ use line::answer::{CollectorAnswer, LaneAnswer, Refusal};
 use line::calls::AnyCrew;
 use line::crew::{Core, Crew, DrainingCrew};
 use script::payload::Ticket;
+use std::marker::PhantomData;
 
 /// A crew, open or draining.
 #[derive(Drop)]
@@ -33,9 +34,15 @@ impl Held {
         if !is_fit(core) {
             None
         } else if core.draining {
-            Some(Held::Draining(DrainingCrew { core }))
+            Some(Held::Draining(DrainingCrew {
+                core,
+                openness: PhantomData,
+            }))
         } else {
-            Some(Held::Open(Crew { core }))
+            Some(Held::Open(Crew {
+                core,
+                openness: PhantomData,
+            }))
         }
     }
 

@@ -9,3 +9,4 @@ pub mod Crew
 pub mod Calls
 pub mod Laws
 pub mod Receipts
+pub mod Either

@@ -8,17 +8,19 @@ ghost use Rattle.line.specs.declared.crew.Core.{Core as Kept-by-crew};
 use crate::access::Shape;
 use crate::answer::{CollectorAnswer, LaneAnswer, Refusal, Totals};
 use crate::collector::Collected;
-use crate::crew::{Core, Crew, DrainingCrew};
+use crate::crew::{Core, Crew, Draining, DrainingCrew, Open, Openness};
 use crate::receipt::{Receipt, Unspent};
 use boards::Board;
+use std::marker::PhantomData;
 
-impl Crew {
+impl Crew<Open> {
     /// A crew that was never laid.
     pub fn new() -> Crew
         ensures { result.core ≡ never_laid }
     {
         Crew {
             core: Core::resting(Shape { lanes: 0, cells: 0 }),
+            openness: PhantomData,
         }
     }
 
@@ -61,11 +63,14 @@ impl Crew {
     {
         let mut core = self.core;
         core.draining = true;
-        DrainingCrew { core }
+        Crew {
+            core,
+            openness: PhantomData,
+        }
     }
 }
 
-impl DrainingCrew {
+impl Crew<Draining> {
     /// Both totals since the laying: posts that ended as posted, and collects that ended as delivered.
     ///
     /// Refuses, in this order, a crew never laid, and one with a post under way, a collect under way or unsettled, or a
@@ -131,44 +136,7 @@ pub trait AnyCrew {
         ensures { told_fill result ≡ fills (core self.now) lane };
 }
 
-impl AnyCrew for Crew {
-    ghost core = { λ c. c.core };
-
-    fn is_laid(&self) -> bool {
-        self.core.is_laid()
-    }
-
-    fn grant_lane<B: Board, P: Copy>(
-        &mut self,
-        board: &mut B,
-        trays: &mut [P],
-        lane: usize,
-    ) -> Result<LaneAnswer, Refusal> {
-        self.core.grant_lane(board, trays, lane)
-    }
-
-    fn begin_collect(&mut self) -> Result<Receipt, Refusal> {
-        self.core.begin_collect()
-    }
-
-    fn grant_collector<B: Board, P: Copy>(
-        &mut self,
-        board: &mut B,
-        trays: &mut [P],
-    ) -> Result<CollectorAnswer, Refusal> {
-        self.core.grant_collector(board, trays)
-    }
-
-    fn settle(&mut self, receipt: Receipt) -> Result<Collected, Unspent> {
-        self.core.settle(receipt)
-    }
-
-    fn fill(&self, lane: usize) -> Result<usize, Refusal> {
-        self.core.fill(lane)
-    }
-}
-
-impl AnyCrew for DrainingCrew {
+impl<S: Openness> AnyCrew for Crew<S> {
     ghost core = { λ c. c.core };
 
     fn is_laid(&self) -> bool {

@@ -1,10 +1,11 @@
 //! The crew: what the line remembers beside the board.
-ghost use Rattle.std.specs.Prelude.{◌≡◌, true, false};
+ghost use Rattle.std.specs.Prelude.{◌≡◌, Bool, true, false};
 ghost use Rattle.line.specs.Limits.{Within};
 
 use crate::access::Shape;
 use crate::collector::Collector;
 use crate::lane::LaneRow;
+use std::marker::PhantomData;
 
 /// What a crew keeps, open or draining.
 #[derive(Clone, Copy)]
@@ -23,21 +24,37 @@ pub struct Core {
     pub draining: bool,
 }
 
-/// A crew for which posts can be begun.
+/// What kind of crew it is: whether posts can be begun for it, or it drains.
+pub trait Openness {
+    /// Whether a crew of this kind drains.
+    ghost drains: { Bool };
+}
+
+/// The kind of crew for which posts can be begun.
+pub struct Open;
+
+/// The kind of crew for which no post can be begun.
+pub struct Draining;
+
+impl Openness for Open {
+    ghost drains = { false };
+}
+
+impl Openness for Draining {
+    ghost drains = { true };
+}
+
+/// A crew: by its name alone one for which posts can be begun.
 ///
 /// What it keeps is open to read, and a crew can be built around anything within the limits: so a crew can be put away as plain
 /// numbers and taken up again.
 #[derive(Drop)]
-pub struct Crew {
+pub struct Crew<S: Openness = Open> {
     pub core: Core,
+    pub openness: PhantomData<S>,
     ghost within: { Within core.shape },
-    ghost open: { core.draining ≡ false },
+    ghost kind: { core.draining ≡ S.drains },
 }
 
 /// A crew for which no post can be begun.
-#[derive(Drop)]
-pub struct DrainingCrew {
-    pub core: Core,
-    ghost within: { Within core.shape },
-    ghost drains: { core.draining ≡ true },
-}
+pub type DrainingCrew = Crew<Draining>;

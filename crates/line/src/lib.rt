@@ -8,6 +8,7 @@ pub mod collect;
 pub mod collecting;
 pub mod collector;
 pub mod crew;
+pub mod either;
 pub mod lane;
 pub mod laws;
 pub mod laying;
