@@ -1,13 +1,29 @@
--- Lanes that are all done, and one that is not.
-use Rattle.std.proofs.Common.{◌≡◌, ℕ, zero, suc, ◌+◌, ◌<◌, Bool, true, false, sym, ap, ◌∙◌, ⊎_elim, add-one, arith}
-use Rattle.std.proofs.lemmas.Bool.{and_from, and_left, and_right, cases_eq}
+-- Lanes tested one after another, from the first on, are all done just as the definition says.
+use Rattle.std.proofs.Common.{◌≡◌, ℕ, zero, suc, ◌+◌, Bool, true, false, ◌&&◌, nat_lt, sym, refl, ap, ◌∙◌, add-one, zero-add, arith}
+use Rattle.std.proofs.lemmas.Bool.{lt-ltb}
+use Rattle.std.specs.List.{list_all, range_with_len}
 use Rattle.line.specs.Calls.{all_below}
 
-module _ (test : ℕ → Bool) where
-  pub all_below_more : (n : ℕ) → all_below test n ≡ true → test n ≡ true → all_below test (n + 1) ≡ true
-  all_below_more n h t = rw add-one (and_from (test n) (all_below test n) t h)
+swapped : (x y z : Bool) → ((x && y) && z) ≡ (y && (x && z))
+swapped true y z = refl
+swapped false true z = refl
+swapped false false z = refl
 
-  pub one_fails : (n i : ℕ) → i < n → test i ≡ false → all_below test n ≡ false
-  one_fails zero i h f = absurd (omega arith)
-  one_fails (suc n) i h f =
-      ⊎_elim (λ e. and_left (test n) (all_below test n) (ap test (sym e) ∙ f)) (λ ne. and_right (test n) (all_below test n) (one_fails n i (omega arith) f)) (cases_eq i n)
+and_true : (x : Bool) → (x && true) ≡ x
+and_true true = refl
+and_true false = refl
+
+module _ (test : ℕ → Bool) (limit : ℕ) where
+  abbrev there : ℕ → Bool
+  there i = nat_lt i limit && test i
+
+  rest_below : (n at : ℕ) → at + n ≡ limit → (list_all there (range_with_len at n) && all_below test at) ≡ all_below test limit
+  rest_below zero at e = let same : at ≡ limit = omega arith in ap (all_below test) same
+  rest_below (suc n) at e =
+      ap (λ t. ((t && test at) && list_all there (range_with_len (at + 1) n)) && all_below test at) (lt-ltb at limit (omega arith))
+      ∙ swapped (test at) _ (all_below test at)
+      ∙ ap (λ m. list_all there (range_with_len (at + 1) n) && all_below test m) (sym (add-one at))
+      ∙ rest_below n (at + 1) (omega arith)
+
+  pub all_below_by_turns : list_all there (range_with_len 0 limit) ≡ all_below test limit
+  all_below_by_turns = sym (and_true _) ∙ rest_below limit 0 (zero-add limit)

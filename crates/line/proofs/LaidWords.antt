@@ -3,8 +3,8 @@ use Rattle.std.proofs.Common.{◌≡◌, ℕ, ◌+◌, ◌*◌, ◌<◌, ◌≤�
 use lib.ListN.{length-replicate}
 use lib.Seq.{paste}
 use Rattle.boards.specs.Words.{empty_word}
-use Rattle.std.proofs.lemmas.List.Edits.{length-paste, paste-paste, paste_all}
-use Rattle.std.proofs.lemmas.List.{length-set, length-append}
+use Rattle.std.proofs.lemmas.List.Edits.{paste-paste, paste_all}
+use Rattle.std.proofs.lemmas.List.{length-append}
 use Rattle.line.specs.Calls.{laid_words}
 use Rattle.line.specs.Crew.{shape}
 use Rattle.line.specs.Map.{words_needed}
@@ -13,12 +13,6 @@ use Rattle.line.specs.Map.{words_needed}
 first_word : (ws : List ℕ) (start : ℕ) → 0 < length ws → set ws 0 start ≡ paste ws 0 (start ∷ []) 1
 first_word [] start h = absurd (omega arith)
 first_word (w ∷ ws) start h = refl
-
--- the words from word `at` on that the first store and the filling of the slots leave room for
-pub room_for_rest : (ws : List ℕ) (n start room : ℕ) → 1 + n + room ≤ length ws → 1 + n + room ≤ length (paste (set ws 0 start) 1 (replicate n empty_word) n)
-room_for_rest ws n start room h =
-    let l : length (set ws 0 start) ≡ length ws = length-set ws 0 start in
-    omega (arith, length-paste (set ws 0 start) 1 (replicate n empty_word) n (omega arith) (omega (arith, length-replicate n empty_word)))
 
 pub laid_is : (ws : List ℕ) (n k start : ℕ) → words_needed (shape n k) ≤ length ws →
     paste (paste (set ws 0 start) 1 (replicate n empty_word) n) (1 + n) (replicate (2 * n + n * k) 0) (2 * n + n * k) ≡ laid_words ws n k start
@@ -34,16 +28,3 @@ laid_is ws n k start h = from_start (2 * n + n * k) (words_needed (shape n k)) (
         ∙ paste_all ws 0 (start ∷ (replicate n empty_word ++ replicate m 0)) (1 + n + m) (omega (arith, length-append (replicate n empty_word) (replicate m 0), length-replicate n empty_word, length-replicate {A = ℕ} m 0))
         ∙ ap (λ j. start ∷ ((replicate n empty_word ++ replicate m 0) ++ drop j ws)) (zero-add (1 + n + m) ∙ sym e)
         ∙ ap (λ xs. start ∷ xs) (append_assoc (replicate n empty_word) (replicate m 0) (drop needed ws))
-
--- the same, of the lists that the stores leave one after another
-module _ (ws xs ys : List ℕ) (n k start : ℕ) (first : xs ≡ set ws 0 start) (slots : ys ≡ paste xs 1 (replicate n empty_word) n) where
-  pub room_left : words_needed (shape n k) ≤ length ws → 1 + n + (2 * n + n * k) ≤ length ys
-  room_left h =
-      let e : ys ≡ paste (set ws 0 start) 1 (replicate n empty_word) n = slots ∙ ap (λ l. paste l 1 (replicate n empty_word) n) first in
-      omega (arith, room_for_rest ws n start (2 * n + n * k) (omega arith), ap length e)
-
-  pub laid_by_stores : (zs : List ℕ) → words_needed (shape n k) ≤ length ws → zs ≡ paste ys (1 + n) (replicate (2 * n + n * k) 0) (2 * n + n * k) → zs ≡ laid_words ws n k start
-  laid_by_stores zs h rest =
-      rest
-      ∙ ap (λ l. paste l (1 + n) (replicate (2 * n + n * k) 0) (2 * n + n * k)) (slots ∙ ap (λ l. paste l 1 (replicate n empty_word) n) first)
-      ∙ laid_is ws n k start h

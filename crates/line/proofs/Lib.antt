@@ -1,7 +1,4 @@
 pub mod Tested
-pub mod Trays
-pub mod Steps
-pub mod Performed
 pub mod LaidWords
 pub mod Endings
 pub mod Telling

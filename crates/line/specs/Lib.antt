@@ -2,7 +2,6 @@ pub mod Map
 pub mod Limits
 pub mod Perform
 pub mod Answers
-pub mod Lanes
 pub mod Post
 pub mod Collect
 pub mod Crew

@@ -1,31 +1,31 @@
 //! What the calls of a line answer.
 use crate::collector::Collected;
 
-/// Why a call was refused. A refused call leaves board, trays and crew as they were.
+/// Why a call was refused, with the number by which it is told. A refused call leaves board, trays and crew as they were.
 #[derive(Clone, Copy, PartialEq, Eq, Debug)]
 pub enum Refusal {
     /// A number of lanes outside 1 to 16, or of cells outside 2 to 64.
-    BadShape,
+    BadShape = 1,
     /// A start stamp above 2^62.
-    BadStart,
+    BadStart = 2,
     /// The board or the trays are too short for the line.
-    TooShort,
+    TooShort = 3,
     /// The crew was never laid.
-    NeverLaid,
+    NeverLaid = 4,
     /// The lane's number is not below the number of lanes.
-    NoLane,
+    NoLane = 5,
     /// A post is under way on the lane already.
-    PostUnderWay,
+    PostUnderWay = 6,
     /// No post is under way on the lane.
-    NoPost,
+    NoPost = 7,
     /// A collect is under way or not settled yet.
-    CollectUnsettled,
+    CollectUnsettled = 10,
     /// No collect is under way; to settle, none is begun.
-    NoCollect,
+    NoCollect = 11,
     /// The collect has not ended yet.
-    CollectNotEnded,
+    CollectNotEnded = 12,
     /// A post is under way, a collect is under way or unsettled, or a frame lies in a lane.
-    NotDone,
+    NotDone = 13,
 }
 
 /// What a lane's grant answers.

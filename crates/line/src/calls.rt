@@ -1,86 +1,19 @@
-//! The calls of a line, in the order in which a line is used.
-ghost use Rattle.std.specs.Prelude.{◌≡◌, ℕ, List};
-ghost use Rattle.line.specs.Answers.{told_collector, told_done, told_fill, told_lane, told_settled, told_totals};
-ghost use Rattle.line.specs.Calls.{CrewGives, Gives, begins_collect, begins_post, drained, fills, grants_collector, grants_lane, laid, lays, reports, settles};
-ghost use Rattle.line.specs.Crew.{never_laid};
+//! The calls that every crew takes, in the order in which a line is used.
+ghost use Rattle.std.specs.Prelude.{◌≡◌, ◌<◌, MatchResult};
+ghost use Rattle.line.specs.declared.answer.Refusal.TheVariants.{NeverLaid};
+ghost use Rattle.line.specs.Answers.{told_collector, told_done, told_fill, told_lane, told_settled};
+ghost use Rattle.line.specs.Calls.{CrewGives, Gives, begins_collect, fills, grants_collector, grants_lane, laid, settles};
 ghost use Rattle.line.specs.declared.crew.Core.{Core as Kept-by-crew};
 
-use crate::access::Shape;
-use crate::answer::{CollectorAnswer, LaneAnswer, Refusal, Totals};
+use crate::answer::{CollectorAnswer, LaneAnswer, Refusal};
 use crate::collector::Collected;
-use crate::crew::{Core, Crew, Draining, DrainingCrew, Open, Openness};
+use crate::crew::{Crew, Openness};
+use crate::lane::{Lane, Stage};
+use crate::perform::perform;
+use crate::posting::posted_after;
 use crate::receipt::{Receipt, Unspent};
+use crate::ring::Ring;
 use boards::Board;
-use std::marker::PhantomData;
-
-impl Crew<Open> {
-    /// A crew that was never laid.
-    pub fn new() -> Crew
-        ensures { result.core ≡ never_laid }
-    {
-        Crew {
-            core: Core::resting(Shape { lanes: 0, cells: 0 }),
-            openness: PhantomData,
-        }
-    }
-
-    /// Lays a line of `lanes` lanes with `cells` cells each over the board and the trays, its first stamp being `start`.
-    ///
-    /// Refuses, in this order, a bad shape, a bad start, a collect under way or unsettled, and a board or trays that are
-    /// too short.
-    pub fn lay<B: Board, P>(
-        &mut self,
-        board: &mut B,
-        trays: &[P],
-        lanes: usize,
-        cells: usize,
-        start: u64,
-    ) -> Result<(), Refusal>
-        ensures step { Gives (lays (B.Board.words board.old) trays.now self.old.core lanes cells start) (told_done result) (B.Board.words board.new) trays.now self.new.core }
-        ensures stays { B.Board.home board.new ≡ B.Board.home board.old }
-    {
-        self.core.lay(board, trays, lanes, cells, start)
-    }
-
-    /// Begins a post of `payload` on a lane: the payload goes into the lane's hand.
-    ///
-    /// Refuses, in this order, a crew never laid, trays that are too short, a lane that is not there, and a lane with a
-    /// post under way.
-    pub fn begin_post<P: Copy>(
-        &mut self,
-        trays: &mut [P],
-        lane: usize,
-        payload: P,
-    ) -> Result<(), Refusal>
-        ensures { (ws : List ℕ) → Gives (begins_post ws trays.old self.old.core lane payload) (told_done result) ws trays.new self.new.core }
-    {
-        self.core.begin_post(trays, lane, payload)
-    }
-
-    /// Turns the open crew into a draining one, for which no post can be begun and no line laid. It never refuses.
-    pub fn drain(self) -> DrainingCrew
-        ensures { result.core ≡ drained self.core }
-    {
-        let mut core = self.core;
-        core.draining = true;
-        Crew {
-            core,
-            openness: PhantomData,
-        }
-    }
-}
-
-impl Crew<Draining> {
-    /// Both totals since the laying: posts that ended as posted, and collects that ended as delivered.
-    ///
-    /// Refuses, in this order, a crew never laid, and one with a post under way, a collect under way or unsettled, or a
-    /// frame in a lane.
-    pub fn report(&self) -> Result<Totals, Refusal>
-        ensures { told_totals result ≡ reports self.now.core }
-    {
-        self.core.report()
-    }
-}
 
 /// The calls that a crew takes whether it is open or draining.
 pub trait AnyCrew {
@@ -136,11 +69,25 @@ pub trait AnyCrew {
         ensures { told_fill result ≡ fills (core self.now) lane };
 }
 
+impl<S: Openness> Crew<S> {
+    /// The ring of the cells of each lane, once a line is laid.
+    fn ring(&self) -> Result<Ring, Refusal>
+        ensures { MatchResult result (λ ring. (0 < self.now.core.shape.lanes) × (ring.cells ≡ self.now.core.shape.cells)) (λ e. (self.now.core.shape.lanes ≡ 0) × (e ≡ NeverLaid)) }
+    {
+        if !self.is_laid() {
+            return Err(Refusal::NeverLaid);
+        }
+        Ok(Ring {
+            cells: self.core.shape.cells,
+        })
+    }
+}
+
 impl<S: Openness> AnyCrew for Crew<S> {
     ghost core = { λ c. c.core };
 
     fn is_laid(&self) -> bool {
-        self.core.is_laid()
+        self.core.shape.lanes > 0
     }
 
     fn grant_lane<B: Board, P: Copy>(
@@ -149,11 +96,30 @@ impl<S: Openness> AnyCrew for Crew<S> {
         trays: &mut [P],
         lane: usize,
     ) -> Result<LaneAnswer, Refusal> {
-        self.core.grant_lane(board, trays, lane)
+        let shape = self.core.shape;
+        if !self.is_laid() {
+            return Err(Refusal::NeverLaid);
+        }
+        if !shape.held_by(board.len(), trays.len()) {
+            return Err(Refusal::TooShort);
+        }
+        if lane >= usize::from(shape.lanes) {
+            return Err(Refusal::NoLane);
+        }
+        let mut own = Lane::try_from(self.core.rows[lane])?;
+        if let Stage::AtRest = own.row.stage {
+            return Err(Refusal::NoPost);
+        }
+        let word = perform(board, trays, shape, own.access(lane as u8));
+        let answer = own.step(word);
+        self.core.rows[lane] = own.row;
+        self.core.posted = posted_after(self.core.posted, answer);
+        Ok(answer)
     }
 
     fn begin_collect(&mut self) -> Result<Receipt, Refusal> {
-        self.core.begin_collect()
+        self.core.open_collect()?;
+        Ok(Receipt::new())
     }
 
     fn grant_collector<B: Board, P: Copy>(
@@ -161,14 +127,33 @@ impl<S: Openness> AnyCrew for Crew<S> {
         board: &mut B,
         trays: &mut [P],
     ) -> Result<CollectorAnswer, Refusal> {
-        self.core.grant_collector(board, trays)
+        let shape = self.core.shape;
+        let ring = self.ring()?;
+        if !shape.held_by(board.len(), trays.len()) {
+            return Err(Refusal::TooShort);
+        }
+        if !self.core.collector.stage.is_under_way() {
+            return Err(Refusal::NoCollect);
+        }
+        let word = perform(board, trays, shape, self.core.collector_access(ring));
+        Ok(self.core.step_collector(ring, word))
     }
 
     fn settle(&mut self, receipt: Receipt) -> Result<Collected, Unspent> {
-        self.core.settle(receipt)
+        match self.core.close_collect() {
+            Ok(how) => {
+                receipt.spend();
+                Ok(how)
+            }
+            Err(refusal) => Err(Unspent { refusal, receipt }),
+        }
     }
 
     fn fill(&self, lane: usize) -> Result<usize, Refusal> {
-        self.core.fill(lane)
+        let ring = self.ring()?;
+        if lane >= usize::from(self.core.shape.lanes) {
+            return Err(Refusal::NoLane);
+        }
+        Ok(usize::from(ring.between(self.core.heads[lane], self.core.rows[lane].tail)))
     }
 }

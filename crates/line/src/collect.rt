@@ -1,11 +1,13 @@
 //! One grant of the collector: which access it makes, and what becomes of its collect.
-ghost use Rattle.std.specs.Prelude.{◌≡◌, ℕ, ◌+◌, ◌%◌, ◌<◌};
+ghost use Rattle.std.specs.Prelude.{◌≡◌, ℕ};
 ghost use Rattle.line.specs.Collect.{after_first, after_second, begun, better, collector_access, collector_next, head_of, under_way};
+ghost use Rattle.line.specs.Crew.{shape};
 
 use crate::access::{Access, Address, Place};
 use crate::collector::{CollectNext, CollectStage, Kept};
 use crate::crew::Core;
 use crate::lane::Attempt;
+use crate::ring::Ring;
 use boards::EMPTY;
 
 impl Kept {
@@ -39,30 +41,15 @@ impl CollectStage {
 
 impl Core {
     /// The copy of a lane's head.
-    fn head(&self, lane: u8) -> u8
+    pub(crate) fn head(&self, lane: u8) -> u8
         ensures { result ≡ head_of self.now.heads lane }
     {
-        if lane < 16 {
-            self.heads[lane as usize]
-        } else {
-            0
-        }
-    }
-
-    /// The cell after a lane's head, round the ring.
-    pub(crate) fn next_head(&self, lane: u8) -> u8
-        requires { 0 < self.now.shape.cells }
-        ensures { result ≡ (head_of self.now.heads lane + 1) % self.now.shape.cells }
-    {
-        let cells = u16::from(self.shape.cells);
-        let after = u16::from(self.head(lane)) + 1;
-        (after % cells) as u8
+        self.heads.get(usize::from(lane)).copied().unwrap_or(0)
     }
 
     /// The one access of the collector at its stage.
-    pub(crate) fn collector_access(&self) -> Access
-        requires { 0 < self.now.shape.cells }
-        ensures { result ≡ collector_access self.now.shape self.now.heads self.now.collector.stage }
+    pub(crate) fn collector_access(&self, ring: Ring) -> Access
+        ensures { result ≡ collector_access (shape self.now.shape.lanes ring.cells) self.now.heads self.now.collector.stage }
     {
         match self.collector.stage {
             CollectStage::Idle => Access::Nothing,
@@ -76,7 +63,7 @@ impl Core {
             }
             CollectStage::Free { kept } => Access::Store(
                 Address::Head(kept.lane),
-                u64::from(self.next_head(kept.lane)),
+                u64::from(ring.after(self.head(kept.lane))),
             ),
             CollectStage::SeeSlot { kept, .. } => Access::Load(Address::Slot(kept.lane)),
             CollectStage::SeeTail { kept, .. } => Access::Load(Address::Tail(kept.lane)),
@@ -95,11 +82,9 @@ impl Core {
     }
 
     /// What comes next: the stage and the word that the grant read decide together.
-    pub(crate) fn collector_next(&self, word: u64) -> CollectNext
-        requires { 0 < self.now.shape.cells }
-        ensures { result ≡ collector_next self.now.shape self.now.heads self.now.collector.stage word }
+    pub(crate) fn collector_next(&self, ring: Ring, word: u64) -> CollectNext
+        ensures { result ≡ collector_next (shape self.now.shape.lanes ring.cells) self.now.heads self.now.collector.stage word }
     {
-        let ring = u64::from(self.shape.cells);
         match (self.collector.stage, word) {
             (CollectStage::ScanFirst { next, kept }, slot) => after_first(
                 self.shape.lanes,
@@ -130,7 +115,7 @@ impl Core {
                     seen,
                 },
                 tail,
-            ) if tail % ring == u64::from(self.head(kept.lane)) => {
+            ) if ring.cell_of(tail) == self.head(kept.lane) => {
                 CollectNext::Goes(CollectStage::RefreshSlot {
                     attempt,
                     kept,

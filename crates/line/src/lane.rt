@@ -67,16 +67,13 @@ pub struct LaneRow {
     pub grants: u64,
 }
 
-/// A lane that can be stepped: it has 2 to 64 cells, and its tail is one of them.
+/// A lane that can be stepped: its row has 2 to 64 cells, and its tail is one of them.
 #[derive(Clone, Copy)]
 pub struct Lane {
-    pub cells: u8,
-    pub tail: u8,
-    pub stage: Stage,
-    pub grants: u64,
-    ghost enough: { 2 ≤ cells },
-    ghost few: { cells ≤ 64 },
-    ghost inside: { tail < cells },
+    pub row: LaneRow,
+    ghost enough: { 2 ≤ row.cells },
+    ghost few: { row.cells ≤ 64 },
+    ghost inside: { row.tail < row.cells },
 }
 
 /// What a grant makes of a post: it goes on, or it ends.

@@ -2,37 +2,27 @@
 ghost use Rattle.line.specs.Laws.{AnswersAreToldApart, EachAddressHasItsOwnWord, Each-collect-ends-by-grant-2n+9, EachPlaceHasItsOwnTray, EachPostEndsByItsThirteenthGrant};
 
 /// Every address of a line is a word of its own, among the words that the line takes up.
-pub fn each_address_has_its_own_word() -> u8
+pub fn each_address_has_its_own_word()
     ensures { EachAddressHasItsOwnWord }
-{
-    0
-}
+{}
 
 /// Every place of a line is a tray of its own, among the trays that the line takes up.
-pub fn each_place_has_its_own_tray() -> u8
+pub fn each_place_has_its_own_tray()
     ensures { EachPlaceHasItsOwnTray }
-{
-    0
-}
+{}
 
 /// Whatever words its grants read, a post ends by its thirteenth, and tells how many it had.
-pub fn each_post_ends_by_its_thirteenth_grant() -> u8
+pub fn each_post_ends_by_its_thirteenth_grant()
     ensures { EachPostEndsByItsThirteenthGrant }
-{
-    0
-}
+{}
 
 /// Whatever words its grants read, a collect over n lanes ends by grant 2n + 9, and an empty one with grant n; it tells
 /// how many it had.
-pub fn each_collect_ends_by_grant_2n_plus_9() -> u8
+pub fn each_collect_ends_by_grant_2n_plus_9()
     ensures { Each-collect-ends-by-grant-2n+9 }
-{
-    0
-}
+{}
 
 /// No two answers of a grant have the same number and values.
-pub fn answers_are_told_apart() -> u8
+pub fn answers_are_told_apart()
     ensures { AnswersAreToldApart }
-{
-    0
-}
+{}

@@ -2,21 +2,21 @@
 ghost use Rattle.std.specs.Prelude.{◌≡◌, ℕ, ◌+◌, ◌*◌, ◌^◌, ◌<◌, ◌≤◌, true, false, length, replicate};
 ghost use Rattle.std.proofs.Math.Seq.{paste};
 ghost use Rattle.line.specs.Answers.{told_done};
-ghost use Rattle.line.specs.Calls.{Gives, laid, laid_words, lays};
-ghost use Rattle.line.specs.Crew.{resting_crew};
-ghost use Rattle.line.specs.Limits.{Within};
+ghost use Rattle.line.specs.Calls.{Gives, laid_words, lays};
+ghost use Rattle.line.specs.Crew.{never_laid, resting_crew};
 ghost use Rattle.line.specs.Map.{words_needed};
 
 use crate::access::Shape;
 use crate::answer::Refusal;
 use crate::collector::{CollectStage, Collector};
-use crate::crew::Core;
+use crate::crew::{Core, Crew, Open};
 use crate::lane::{LaneRow, Stage};
 use boards::{Board, EMPTY, STAMP_LIMIT};
+use std::marker::PhantomData;
 
 impl Core {
     /// A crew of this shape with nothing under way.
-    pub(crate) fn resting(shape: Shape) -> Core
+    fn resting(shape: Shape) -> Core
         ensures { result ≡ resting_crew shape.lanes shape.cells }
     {
         let row = LaneRow {
@@ -47,34 +47,41 @@ fn fill<B: Board>(board: &mut B, at: usize, count: usize, value: u64)
     ensures after { B.Board.words board.new ≡ paste (B.Board.words board.old) at (replicate count value) count }
     ensures stays { B.Board.home board.new ≡ B.Board.home board.old }
 {
-    for i in 0..count {
-        board.store(at + i, value);
+    for word in at..at + count {
+        board.store(word, value);
     }
 }
 
 /// Stores the words of a line with nothing under way.
+#[tactic(auto, using(crate::proofs::LaidWords::laid_is))]
 fn lay_words<B: Board>(board: &mut B, shape: Shape, start: u64)
     requires { words_needed shape ≤ length (B.Board.words board.old) }
     ensures after { B.Board.words board.new ≡ laid_words (B.Board.words board.old) shape.lanes shape.cells start }
     ensures stays { B.Board.home board.new ≡ B.Board.home board.old }
 {
-    let n = shape.lanes as usize;
-    let k = shape.cells as usize;
+    let n = usize::from(shape.lanes);
+    let k = usize::from(shape.cells);
     board.store(0, start);
     fill(board, 1, n, EMPTY);
     fill(board, 1 + n, 2 * n + n * k, 0);
 }
 
-impl Core {
-    /// Whether a line has been laid: it has lanes then.
-    pub(crate) fn is_laid(&self) -> bool
-        ensures { result ≡ laid self.now }
+impl Crew<Open> {
+    /// A crew that was never laid.
+    pub fn new() -> Crew
+        ensures { result.core ≡ never_laid }
     {
-        self.shape.lanes > 0
+        Crew {
+            core: Core::resting(Shape { lanes: 0, cells: 0 }),
+            openness: PhantomData,
+        }
     }
 
-    /// Lays a line over board and trays.
-    pub(crate) fn lay<B: Board, P>(
+    /// Lays a line of `lanes` lanes with `cells` cells each over the board and the trays, its first stamp being `start`.
+    ///
+    /// Refuses, in this order, a bad shape, a bad start, a collect under way or unsettled, and a board or trays that are
+    /// too short.
+    pub fn lay<B: Board, P>(
         &mut self,
         board: &mut B,
         trays: &[P],
@@ -82,18 +89,16 @@ impl Core {
         cells: usize,
         start: u64,
     ) -> Result<(), Refusal>
-        ensures step { Gives (lays (B.Board.words board.old) trays.now self.old lanes cells start) (told_done result) (B.Board.words board.new) trays.now self.new }
+        ensures step { Gives (lays (B.Board.words board.old) trays.now self.old.core lanes cells start) (told_done result) (B.Board.words board.new) trays.now self.new.core }
         ensures stays { B.Board.home board.new ≡ B.Board.home board.old }
-        ensures within { Within self.old.shape → Within self.new.shape }
-        ensures open { self.old.draining ≡ false → self.new.draining ≡ false }
     {
-        if lanes < 1 || lanes > 16 || cells < 2 || cells > 64 {
+        if !(1..=16).contains(&lanes) || !(2..=64).contains(&cells) {
             return Err(Refusal::BadShape);
         }
         if start > STAMP_LIMIT {
             return Err(Refusal::BadStart);
         }
-        if self.collector.stage.is_begun() {
+        if self.core.collector.stage.is_begun() {
             return Err(Refusal::CollectUnsettled);
         }
         let shape = Shape {
@@ -104,7 +109,7 @@ impl Core {
             return Err(Refusal::TooShort);
         }
         lay_words(board, shape, start);
-        *self = Core::resting(shape);
+        self.core = Core::resting(shape);
         Ok(())
     }
 }

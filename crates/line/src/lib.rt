@@ -18,4 +18,5 @@ pub mod perform;
 pub mod posting;
 pub mod receipt;
 pub mod reporting;
+mod ring;
 pub mod step;

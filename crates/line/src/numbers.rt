@@ -9,18 +9,6 @@ impl Refusal {
     pub fn number(self) -> u8
         ensures { result ≡ refusal_number self }
     {
-        match self {
-            Refusal::BadShape => 1,
-            Refusal::BadStart => 2,
-            Refusal::TooShort => 3,
-            Refusal::NeverLaid => 4,
-            Refusal::NoLane => 5,
-            Refusal::PostUnderWay => 6,
-            Refusal::NoPost => 7,
-            Refusal::CollectUnsettled => 10,
-            Refusal::NoCollect => 11,
-            Refusal::CollectNotEnded => 12,
-            Refusal::NotDone => 13,
-        }
+        self as u8
     }
 }

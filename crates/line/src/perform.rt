@@ -24,13 +24,7 @@ pub(crate) fn perform<B: Board, P: Copy>(
             board.store(shape.word(at), value);
             0
         }
-        Access::Swap(at, from, to) => {
-            if board.swap(shape.word(at), from, to) {
-                1
-            } else {
-                0
-            }
-        }
+        Access::Swap(at, from, to) => u64::from(board.swap(shape.word(at), from, to)),
         Access::Take(at) => board.take(shape.word(at)),
         Access::CopyTray(from, to) => {
             copy_tray(trays, shape.tray(from), shape.tray(to));
@@ -43,8 +37,9 @@ pub(crate) fn perform<B: Board, P: Copy>(
 fn copy_tray<P: Copy>(trays: &mut [P], from: usize, to: usize)
     ensures { trays.new ≡ copied trays.old from to }
 {
-    if from >= trays.len() || to >= trays.len() {
-        return;
+    if let Some(&payload) = trays.get(from)
+        && to < trays.len()
+    {
+        trays[to] = payload;
     }
-    trays[to] = trays[from];
 }

@@ -1,31 +1,30 @@
-//! The posting side: begin a post, and grant a lane.
-ghost use Rattle.std.specs.Prelude.{◌≡◌, ℕ, ◌<◌, ◌≤◌, List};
-ghost use Rattle.line.specs.Answers.{told_done, told_lane};
-ghost use Rattle.line.specs.Calls.{Gives, begins_post, grants_lane};
-ghost use Rattle.line.specs.Crew.{Keeps, posted_after};
-ghost use Rattle.line.specs.Limits.{Within};
+//! The posting side: begin a post, and count those that end as posted.
+ghost use Rattle.std.specs.Prelude.{◌≡◌, ℕ, List};
+ghost use Rattle.line.specs.Answers.{told_done};
+ghost use Rattle.line.specs.Calls.{Gives, begins_post};
+ghost use Rattle.line.specs.Crew.{posted_after};
 
 use crate::access::Place;
 use crate::answer::{LaneAnswer, Refusal};
-use crate::crew::Core;
-use crate::lane::{Lane, LaneRow, Stage};
-use crate::perform::perform;
-use boards::Board;
+use crate::calls::AnyCrew;
+use crate::crew::{Crew, Open};
+use crate::lane::{LaneRow, Stage};
 
-impl Core {
-    /// The lane's hand gets the payload, and its post waits for the first grant.
-    pub(crate) fn begin_post<P: Copy>(
+impl Crew<Open> {
+    /// Begins a post of `payload` on a lane: the payload goes into the lane's hand, and the post waits for its first grant.
+    ///
+    /// Refuses, in this order, a crew never laid, trays that are too short, a lane that is not there, and a lane with a
+    /// post under way.
+    pub fn begin_post<P: Copy>(
         &mut self,
         trays: &mut [P],
         lane: usize,
         payload: P,
     ) -> Result<(), Refusal>
-        requires { Within self.old.shape }
-        ensures step { (ws : List ℕ) → Gives (begins_post ws trays.old self.old lane payload) (told_done result) ws trays.new self.new }
-        ensures keeps { Keeps self.old self.new }
+        ensures { (ws : List ℕ) → Gives (begins_post ws trays.old self.old.core lane payload) (told_done result) ws trays.new self.new.core }
     {
-        let shape = self.shape;
-        if shape.lanes == 0 {
+        let shape = self.core.shape;
+        if !self.is_laid() {
             return Err(Refusal::NeverLaid);
         }
         if trays.len() < shape.trays_needed() {
@@ -34,58 +33,22 @@ impl Core {
         if lane >= usize::from(shape.lanes) {
             return Err(Refusal::NoLane);
         }
-        let row = self.rows[lane];
+        let row = self.core.rows[lane];
         let Stage::AtRest = row.stage else {
             return Err(Refusal::PostUnderWay);
         };
         trays[shape.tray(Place::Hand(lane as u8))] = payload;
-        self.rows[lane] = LaneRow {
-            cells: row.cells,
-            tail: row.tail,
+        self.core.rows[lane] = LaneRow {
             stage: Stage::TestSpace,
             grants: 0,
+            ..row
         };
         Ok(())
-    }
-
-    /// One access of the lane's post.
-    pub(crate) fn grant_lane<B: Board, P: Copy>(
-        &mut self,
-        board: &mut B,
-        trays: &mut [P],
-        lane: usize,
-    ) -> Result<LaneAnswer, Refusal>
-        requires { Within self.old.shape }
-        ensures step { Gives (grants_lane (B.Board.words board.old) trays.old self.old lane) (told_lane result) (B.Board.words board.new) trays.new self.new }
-        ensures stays { B.Board.home board.new ≡ B.Board.home board.old }
-        ensures keeps { Keeps self.old self.new }
-    {
-        let shape = self.shape;
-        if shape.lanes == 0 {
-            return Err(Refusal::NeverLaid);
-        }
-        if !shape.held_by(board.len(), trays.len()) {
-            return Err(Refusal::TooShort);
-        }
-        if lane >= usize::from(shape.lanes) {
-            return Err(Refusal::NoLane);
-        }
-        let Some(mut own) = Lane::from_row(self.rows[lane]) else {
-            return Err(Refusal::NeverLaid);
-        };
-        if let Stage::AtRest = own.stage {
-            return Err(Refusal::NoPost);
-        }
-        let word = perform(board, trays, shape, own.access(lane as u8));
-        let answer = own.step(word);
-        self.rows[lane] = own.row();
-        self.posted = posted_after(self.posted, answer);
-        Ok(answer)
     }
 }
 
 /// The total of posted frames after a grant with this answer.
-fn posted_after(total: u64, answer: LaneAnswer) -> u64
+pub(crate) fn posted_after(total: u64, answer: LaneAnswer) -> u64
     ensures { result ≡ posted_after total answer }
 {
     match answer {

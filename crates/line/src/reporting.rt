@@ -1,19 +1,35 @@
-//! The report: both totals, once nothing is left to do.
-ghost use Rattle.std.specs.Prelude.{◌≡◌, ◌<◌};
+//! The end of a line: an open crew drains, and reports both totals once nothing is left to do.
+ghost use Rattle.std.specs.Prelude.{◌≡◌, ◌&&◌};
 ghost use Rattle.line.specs.Answers.{told_totals};
-ghost use Rattle.line.specs.Calls.{all_done, lane_done, reports};
-ghost use Rattle.line.specs.Limits.{Within};
+ghost use Rattle.line.specs.Calls.{all_done, drained, is_lane, lane_done, reports};
 
 use crate::answer::{Refusal, Totals};
-use crate::collecting::cells_between;
-use crate::crew::Core;
+use crate::calls::AnyCrew;
+use crate::crew::{Crew, Draining, DrainingCrew, Open};
 use crate::lane::Stage;
+use std::marker::PhantomData;
 
-impl Core {
-    /// Both totals, if nothing is under way or unsettled and every lane's ring is empty.
-    pub(crate) fn report(&self) -> Result<Totals, Refusal>
-        requires { Within self.now.shape }
-        ensures { told_totals result ≡ reports self.now }
+impl Crew<Open> {
+    /// Turns the open crew into a draining one, for which no post can be begun and no line laid. It never refuses.
+    pub fn drain(self) -> DrainingCrew
+        ensures { result.core ≡ drained self.core }
+    {
+        let mut core = self.core;
+        core.draining = true;
+        Crew {
+            core,
+            openness: PhantomData,
+        }
+    }
+}
+
+impl Crew<Draining> {
+    /// Both totals since the laying: posts that ended as posted, and collects that ended as delivered.
+    ///
+    /// Refuses, in this order, a crew never laid, and one with a post under way, a collect under way or unsettled, or a
+    /// frame in a lane.
+    pub fn report(&self) -> Result<Totals, Refusal>
+        ensures { told_totals result ≡ reports self.now.core }
     {
         if !self.is_laid() {
             return Err(Refusal::NeverLaid);
@@ -22,34 +38,23 @@ impl Core {
             return Err(Refusal::NotDone);
         }
         Ok(Totals {
-            posted: self.posted,
-            delivered: self.delivered,
+            posted: self.core.posted,
+            delivered: self.core.delivered,
         })
     }
 
     /// Whether nothing is under way or unsettled and every lane's ring is empty.
     fn is_done(&self) -> bool
-        requires { Within self.now.shape }
-        ensures { result ≡ all_done self.now }
+        ensures { result ≡ all_done self.now.core }
     {
-        if self.collector.stage.is_begun() {
-            return false;
-        }
-        for lane in 0..self.shape.lanes {
-            if !self.lane_done(lane as usize) {
-                return false;
-            }
-        }
-        true
+        !self.core.collector.stage.is_begun()
+            && (0..self.core.shape.lanes).all(|lane| self.lane_done(usize::from(lane)))
     }
 
-    /// Whether a lane has no post under way and its ring is empty.
+    /// Whether a lane is there, has no post under way, and its ring is empty.
     fn lane_done(&self, lane: usize) -> bool
-        requires { (lane < 16) × (0 < self.now.shape.cells) }
-        ensures { result ≡ lane_done self.now lane }
+        ensures { result ≡ (is_lane self.now.core lane && lane_done self.now.core lane) }
     {
-        let row = self.rows[lane];
-        matches!(row.stage, Stage::AtRest)
-            && cells_between(self.heads[lane], row.tail, self.shape.cells) == 0
+        matches!(self.fill(lane), Ok(0)) && matches!(self.core.rows[lane].stage, Stage::AtRest)
     }
 }

@@ -1,62 +1,57 @@
 //! One grant of a lane: which access it makes, and what becomes of its post.
-ghost use Rattle.std.specs.Prelude.{◌≡◌, ℕ, true, false, MatchOption};
-ghost use Rattle.line.specs.Lanes.{row_of_lane};
+ghost use Rattle.std.specs.Prelude.{◌≡◌, ℕ, true, false, MatchResult};
+ghost use Rattle.line.specs.declared.answer.Refusal.TheVariants.{NeverLaid};
 ghost use Rattle.line.specs.Post.{sound, lane_access, lane_next, lane_answer, row_after, next_tail};
 
 use crate::access::{Access, Address, Place};
-use crate::answer::LaneAnswer;
+use crate::answer::{LaneAnswer, Refusal};
 use crate::lane::{Attempt, Lane, LaneRow, Next, Stage};
+use crate::ring::Ring;
 use boards::STAMP_LIMIT;
 
-impl Lane {
-    /// The lane of a row, if its cells and tail are within their limits.
-    pub(crate) fn from_row(row: LaneRow) -> Option<Lane>
-        ensures { MatchOption result (sound row ≡ false) (λ lane. (sound row ≡ true) × (row_of_lane lane ≡ row)) }
-    {
-        if row.cells >= 2 && row.cells <= 64 && row.tail < row.cells {
-            Some(Lane {
-                cells: row.cells,
-                tail: row.tail,
-                stage: row.stage,
-                grants: row.grants,
-            })
+/// The lane of a row, if its cells and tail are within their limits; a row of which no lane can be made was never laid.
+impl TryFrom<LaneRow> for Lane {
+    type Error = Refusal;
+
+    ghost try_from_gives = { λ row r. MatchResult r (λ lane. (sound row ≡ true) × (lane.row ≡ row)) (λ e. (sound row ≡ false) × (e ≡ NeverLaid)) };
+
+    fn try_from(row: LaneRow) -> Result<Lane, Refusal> {
+        if (2..=64).contains(&row.cells) && row.tail < row.cells {
+            Ok(Lane { row })
         } else {
-            None
+            Err(Refusal::NeverLaid)
         }
     }
+}
 
-    /// The row that goes back into the crew's array.
-    pub(crate) fn row(self) -> LaneRow
-        ensures { result ≡ row_of_lane self }
+impl Lane {
+    /// The ring of the lane's cells.
+    fn ring(&self) -> Ring
+        ensures { result.cells ≡ self.now.row.cells }
     {
-        LaneRow {
-            cells: self.cells,
-            tail: self.tail,
-            stage: self.stage,
-            grants: self.grants,
+        Ring {
+            cells: self.row.cells,
         }
     }
 
     /// The cell after the tail, round the ring.
     fn next_tail(&self) -> u8
-        ensures { result ≡ next_tail (row_of_lane self.now) }
+        ensures { result ≡ next_tail self.now.row }
     {
-        (self.tail + 1) % self.cells
+        self.ring().after(self.row.tail)
     }
 
     /// The one access of this lane, which has the number `lane`, at its stage.
     pub(crate) fn access(&self, lane: u8) -> Access
-        ensures { result ≡ lane_access lane (row_of_lane self.now) self.now.stage }
+        ensures { result ≡ lane_access lane self.now.row self.now.row.stage }
     {
-        match self.stage {
+        let LaneRow { tail, stage, .. } = self.row;
+        match stage {
             Stage::AtRest => Access::Nothing,
             Stage::TestSpace => Access::Load(Address::Head(lane)),
             Stage::TakeStamp => Access::Take(Address::Counter),
-            Stage::FillCell { .. } => Access::CopyTray(
-                Place::Hand(lane),
-                Place::Cell(lane, self.tail),
-            ),
-            Stage::MarkCell { stamp } => Access::Store(Address::CellStamp(lane, self.tail), stamp),
+            Stage::FillCell { .. } => Access::CopyTray(Place::Hand(lane), Place::Cell(lane, tail)),
+            Stage::MarkCell { stamp } => Access::Store(Address::CellStamp(lane, tail), stamp),
             Stage::Publish { .. } => Access::Store(
                 Address::Tail(lane),
                 u64::from(self.next_tail()),
@@ -70,13 +65,12 @@ impl Lane {
 
     /// What comes next: the stage and the word that the grant read decide together.
     fn next(&self, word: u64) -> Next
-        ensures { result ≡ lane_next (row_of_lane self.now) self.now.stage word }
+        ensures { result ≡ lane_next self.now.row self.now.row.stage word }
     {
-        let ring = u64::from(self.cells);
-        match (self.stage, word) {
+        let ring = self.ring();
+        match (self.row.stage, word) {
             (Stage::AtRest, _) => Next::Goes(Stage::AtRest),
-            (Stage::TestSpace, head) if head % ring == u64::from(self.next_tail()) =>
-                Next::EndsFull,
+            (Stage::TestSpace, head) if ring.cell_of(head) == self.next_tail() => Next::EndsFull,
             (Stage::TestSpace, _) => Next::Goes(Stage::TakeStamp),
             (Stage::TakeStamp, STAMP_LIMIT) => Next::EndsUsedUp,
             (Stage::TakeStamp, stamp) => Next::Goes(Stage::FillCell { stamp }),
@@ -91,7 +85,7 @@ impl Lane {
                 stamp,
                 seen,
             }),
-            (Stage::LoadHead { stamp, .. }, head) if head % ring == u64::from(self.tail) =>
+            (Stage::LoadHead { stamp, .. }, head) if ring.cell_of(head) == self.row.tail =>
                 Next::EndsPosted(stamp),
             (
                 Stage::LoadHead {
@@ -105,7 +99,7 @@ impl Lane {
                     attempt,
                     stamp,
                     seen,
-                    head: (head % ring) as u8,
+                    head: ring.cell_of(head),
                 })
             }
             (
@@ -143,18 +137,18 @@ impl Lane {
 
     /// Steps the lane by a grant that read `word`, and answers what the grant answers.
     pub(crate) fn step(&mut self, word: u64) -> LaneAnswer
-        ensures answer { result ≡ lane_answer (row_of_lane self.old) word }
-        ensures after { row_of_lane self.new ≡ row_after (row_of_lane self.old) word }
+        ensures answer { result ≡ lane_answer self.old.row word }
+        ensures after { self.new.row ≡ row_after self.old.row word }
     {
-        let grants = self.grants.saturating_add(1);
+        let grants = self.row.grants.saturating_add(1);
         let next = self.next(word);
-        if let Stage::Publish { .. } = self.stage {
-            self.tail = self.next_tail();
+        if let Stage::Publish { .. } = self.row.stage {
+            self.row.tail = self.next_tail();
         }
         match next {
             Next::Goes(stage) => {
-                self.stage = stage;
-                self.grants = grants;
+                self.row.stage = stage;
+                self.row.grants = grants;
                 LaneAnswer::On
             }
             Next::EndsPosted(stamp) => {
@@ -174,9 +168,9 @@ impl Lane {
 
     /// No post is under way any more.
     fn rest(&mut self)
-        ensures { row_of_lane self.new ≡ record { cells = self.old.cells; tail = self.old.tail; stage = Stage.AtRest; grants = 0 } }
+        ensures { self.new.row ≡ record { cells = self.old.row.cells; tail = self.old.row.tail; stage = Stage.AtRest; grants = 0 } }
     {
-        self.stage = Stage::AtRest;
-        self.grants = 0;
+        self.row.stage = Stage::AtRest;
+        self.row.grants = 0;
     }
 }

@@ -1,15 +1,20 @@
-use Rattle.std.proofs.Common.{◌+◌, [], set, refl, ap, ◌∙◌, arith}
-use Rattle.std.proofs.lemmas.List.Edits.{paste_none, fill_from_more}
+use Rattle.std.proofs.Common.{◌≡◌, ◌+◌, ◌-◌, set, replicate, ap, ◌∙◌, arith}
+use Rattle.std.proofs.lemmas.List.Edits.{fill_from_more}
+use lib.Seq.{paste}
 use Rattle.line.proofs.laying.fill.Goals as goal
 
-pub loop-i-init : goal.loop-i-init
-loop-i-init g c = (paste_none (g.B.Board.words c.args.board.now) c.args.at [], refl)
-
-pub loop-i-preserved : goal.loop-i-preserved
-loop-i-preserved g c =
-    let ws = g.B.Board.words c.args.board.now in (
+pub loop-word-preserved : goal.loop-word-preserved
+loop-word-preserved g c =
+    let ws = g.B.Board.words c.args.board.now in
+    let at = c.args.at in
+    let value = c.args.value in
+    let made = c.loop-word.word - at in
+    let there : c.loop-word.word ≡ at + made = omega arith in
+    let more : made + 1 ≡ c.loop-word.word + 1 - at = omega arith in (
       c.store.ensures.after
-          ∙ ap (λ xs. set xs (c.args.at + c.loop-i.i) c.args.value) c.loop-i.invariant.0
-          ∙ fill_from_more ws c.args.at c.loop-i.i c.args.value (omega arith),
-      c.store.ensures.stays ∙ c.loop-i.invariant.1,
+          ∙ ap (λ xs. set xs c.loop-word.word value) c.loop-word.invariant.0
+          ∙ ap (λ word. set (paste ws at (replicate made value) made) word value) there
+          ∙ fill_from_more ws at made value (omega arith)
+          ∙ ap (λ n. paste ws at (replicate n value) n) more,
+      c.store.ensures.stays ∙ c.loop-word.invariant.1,
     )
