@@ -42,6 +42,8 @@ pub enum LaneAnswer {
 }
 
 /// What the collector's grant answers.
+///
+/// Not an `Option` of how the collect ended: what a call answers is an enum whose cases have names, as `LaneAnswer` has.
 #[derive(Clone, Copy, PartialEq, Eq, Debug)]
 pub enum CollectorAnswer {
     /// The collect goes on.

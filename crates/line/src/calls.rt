@@ -16,6 +16,9 @@ use crate::ring::Ring;
 use boards::Board;
 
 /// The calls that a crew takes whether it is open or draining.
+///
+/// Board and trays are lent one beside the other, not as one struct: laying only reads the trays, and beginning a post takes no
+/// board.
 pub trait AnyCrew {
     /// What the crew keeps.
     ghost core: { Self → Kept-by-crew };

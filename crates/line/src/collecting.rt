@@ -67,7 +67,7 @@ impl Core {
         ensures { self.new ≡ with_collector self.old (slice_set self.old.heads lane ((head_of self.old.heads lane + 1) % ring.cells)) self.old.collector self.old.delivered }
     {
         let next = ring.after(self.head(lane));
-        // By index, not through `get_mut`: a write through that says nothing to a proof of the elements.
+        // By index: a write through `get_mut` tells a proof nothing of the heads.
         if usize::from(lane) < self.heads.len() {
             self.heads[usize::from(lane)] = next;
         }

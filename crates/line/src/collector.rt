@@ -3,7 +3,8 @@ use crate::lane::Attempt;
 
 /// The smallest stamp that a scan has seen so far, and the lane whose slot held it.
 ///
-/// While every slot seen was empty the stamp is the empty mark, which is larger than every stamp.
+/// While every slot seen was empty the stamp is the empty mark, which is larger than every stamp: so the smallest word seen
+/// needs no case of its own, as an `Option` would have.
 #[derive(Clone, Copy)]
 pub struct Kept {
     pub lane: u8,

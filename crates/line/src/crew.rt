@@ -14,6 +14,8 @@ pub struct Core {
     /// A row for each lane; those from `shape.lanes` on are not used.
     pub rows: [LaneRow; 16],
     /// For each lane the cell that is freed next: copies of the heads on the board.
+    ///
+    /// Beside the rows and not in them: a lane's grant writes back its whole row, and the heads are the collector's alone.
     pub heads: [u8; 16],
     pub collector: Collector,
     /// How many posts have ended as posted since the laying; it stops at 2^64 − 1.
@@ -21,6 +23,8 @@ pub struct Core {
     /// How many collects have ended as delivered since the laying; it stops at 2^64 − 1.
     pub delivered: u64,
     /// Whether the crew drains: no post can be begun any more.
+    ///
+    /// A crew's type says so too; this is how a crew says it that is put away as plain numbers, as C keeps one.
     pub draining: bool,
 }
 

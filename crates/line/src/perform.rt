@@ -40,6 +40,7 @@ fn copy_tray<P: Copy>(trays: &mut [P], from: usize, to: usize)
     if let Some(&payload) = trays.get(from)
         && to < trays.len()
     {
+        // By index: a write through `get_mut` tells a proof nothing of the trays.
         trays[to] = payload;
     }
 }
