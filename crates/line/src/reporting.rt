@@ -5,7 +5,7 @@ ghost use Rattle.line.specs.Calls.{all_done, drained, is_lane, lane_done, report
 
 use crate::answer::{Refusal, Totals};
 use crate::calls::AnyCrew;
-use crate::crew::{Crew, Draining, DrainingCrew, Open};
+use crate::crew::{Core, Crew, Draining, DrainingCrew, Open};
 use crate::lane::Stage;
 use std::marker::PhantomData;
 
@@ -14,10 +14,11 @@ impl Crew<Open> {
     pub fn drain(self) -> DrainingCrew
         ensures { result.core ≡ drained self.core }
     {
-        let mut core = self.core;
-        core.draining = true;
         Crew {
-            core,
+            core: Core {
+                draining: true,
+                ..self.core
+            },
             openness: PhantomData,
         }
     }
