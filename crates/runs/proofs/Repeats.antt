@@ -8,9 +8,10 @@ use Rattle.line.proofs.Tested.{gives_same}
 use Rattle.runs.specs.Runs.{is_on, repeated}
 
 module _ {P : Type 0} (grant : List ℕ → List P → Core → Outcome P) where
-  pub repeated_none : (left : ℕ) (ws : List ℕ) (ps : List P) (c : Core) (o : Outcome P) → left ≡ 0 → repeated grant left ws ps c ≡ o → Gives o (told 0 []) ws ps c
-  repeated_none left ws ps c o none e =
-      gives_same (sym e ∙ ap (λ n. repeated grant n ws ps c) none) (record { answer = refl; board = refl; trays = refl; crew = refl })
+  -- where no grant is left the answer is on
+  pub repeated_none : (left : ℕ) (ws : List ℕ) (ps : List P) (c : Core) (o : Outcome P) (a : Told) → a ≡ told 0 [] → left ≡ 0 → repeated grant left ws ps c ≡ o → Gives o a ws ps c
+  repeated_none left ws ps c o a on none e =
+      gives_same (sym e ∙ ap (λ n. repeated grant n ws ps c) none) (record { answer = on; board = refl; trays = refl; crew = refl })
 
   module _ (left more : ℕ) (ws ws' : List ℕ) (ps ps' : List P) (c c' : Core) (a : Told) (some : left ≡ suc more) (did : Gives (grant ws ps c) a ws' ps' c') where
     -- an answer other than on is the last

@@ -1,11 +1,14 @@
 //! A list of calls, performed on a line.
-ghost use Rattle.std.specs.Prelude.{◌≡◌, ℕ, ◌≤◌, [], map, length, None, vec_len, vec_capacity};
+ghost use Rattle.std.specs.Prelude.{◌≡◌, ℕ, ◌≤◌, List, [], map, length, vec_len, vec_capacity};
+ghost use Rattle.line.specs.Answers.{Told};
+ghost use Rattle.line.specs.Calls.{Outcome};
+ghost use Rattle.line.specs.declared.crew.Core.{Core};
 ghost use Rattle.runs.specs.Ready.{Ready};
-ghost use Rattle.runs.specs.Runs.{Answers, Left, any_performed, any_says, closes, draining_performed, draining_says, most_collect_grants, open_performed, open_says, runs_on, said};
+ghost use Rattle.runs.specs.Runs.{Answers, Left, Said, any_performed, any_says, closes, draining_performed, draining_says, most_collect_grants, open_performed, open_says, runs_on, said};
 
 use crate::answers::Answer;
 use crate::calls::{CrewCall, DrainingCall, OpenCall};
-use crate::grants::{grant_collector_times, grant_lane_times};
+use crate::grants::{CollectorGrant, LaneGrant, grant_times};
 use crate::receipts::{begin_collect, settle};
 use boards::Board;
 use line::calls::AnyCrew;
@@ -26,7 +29,7 @@ fn perform_any<C: AnyCrew, B: Board, P: Copy>(
 {
     match call {
         CrewCall::GrantLane { lane, times } => {
-            let result = grant_lane_times(crew, board, trays, lane, times);
+            let result = grant_times(LaneGrant { lane }, crew, board, trays, times);
             (Answer::GrantLane { lane, result }, held)
         }
         CrewCall::BeginCollect => {
@@ -34,7 +37,7 @@ fn perform_any<C: AnyCrew, B: Board, P: Copy>(
             (Answer::BeginCollect(result), held)
         }
         CrewCall::GrantCollector { times } => {
-            let result = grant_collector_times(crew, board, trays, times);
+            let result = grant_times(CollectorGrant, crew, board, trays, times);
             (Answer::GrantCollector(result), held)
         }
         CrewCall::Settle => {
@@ -44,85 +47,94 @@ fn perform_any<C: AnyCrew, B: Board, P: Copy>(
     }
 }
 
-/// Performs a call before the drain.
-fn perform_open<B: Board, P: Copy>(
-    crew: &mut Crew,
-    board: &mut B,
-    trays: &mut [P],
-    held: Option<Receipt>,
-    call: OpenCall<P>,
-) -> (Answer, Option<Receipt>)
-    requires { Ready held (B.Board.words board.old) trays.old crew.old.core }
-    ensures step { Answers (open_performed call (B.Board.words board.old) trays.old crew.old.core) (open_says call) (said result.0) (B.Board.words board.new) trays.new crew.new.core }
-    ensures ready { Ready result.1 (B.Board.words board.new) trays.new crew.new.core }
-{
-    match call {
-        OpenCall::BeginPost { lane, payload } => (
-            Answer::BeginPost(crew.begin_post(trays, lane, payload)),
-            held,
-        ),
-        OpenCall::Any(call) => perform_any(crew, board, trays, held, call),
+/// A call of one part of a list, before the drain or after it.
+pub(crate) trait PartCall<P: Copy>: Copy {
+    /// The crew of that part.
+    type Crew: AnyCrew;
+
+    /// What the call does.
+    ghost performed: { Self → List ℕ → List P → Core → Outcome P };
+
+    /// What its answer says, by number and values.
+    ghost says: { Self → Told → Said };
+
+    /// Performs the call, and hands on the receipt that is held then.
+    fn perform<B: Board>(
+        self,
+        crew: &mut Self::Crew,
+        board: &mut B,
+        trays: &mut [P],
+        held: Option<Receipt>,
+    ) -> (Answer, Option<Receipt>)
+        requires { Ready held (B.Board.words board.old) trays.old (Self.Crew.AnyCrew.core crew.old) }
+        ensures step { Answers (performed self (B.Board.words board.old) trays.old (Self.Crew.AnyCrew.core crew.old)) (says self) (said result.0) (B.Board.words board.new) trays.new (Self.Crew.AnyCrew.core crew.new) }
+        ensures ready { Ready result.1 (B.Board.words board.new) trays.new (Self.Crew.AnyCrew.core crew.new) };
+}
+
+impl<P: Copy> PartCall<P> for OpenCall<P> {
+    type Crew = Crew;
+
+    ghost performed = { open_performed };
+
+    ghost says = { open_says };
+
+    fn perform<B: Board>(
+        self,
+        crew: &mut Crew,
+        board: &mut B,
+        trays: &mut [P],
+        held: Option<Receipt>,
+    ) -> (Answer, Option<Receipt>) {
+        match self {
+            OpenCall::BeginPost { lane, payload } => (
+                Answer::BeginPost(crew.begin_post(trays, lane, payload)),
+                held,
+            ),
+            OpenCall::Any(call) => perform_any(crew, board, trays, held, call),
+        }
     }
 }
 
-/// Performs the calls before the drain, and adds what they answer.
-pub(crate) fn run_open<B: Board, P: Copy>(
-    crew: &mut Crew,
-    board: &mut B,
-    trays: &mut [P],
-    calls: &[OpenCall<P>],
-    answers: &mut Vec<Answer>,
-) -> Option<Receipt>
-    requires { (Ready None (B.Board.words board.old) trays.old crew.old.core) × ((answers.old.items ≡ []) × ((vec_len answers.old ≡ 0) × (length calls.now ≤ vec_capacity answers.old))) }
-    ensures left { Left (runs_on open_performed open_says calls.now [] (B.Board.words board.old) trays.old crew.old.core) (map said answers.new.items) (B.Board.words board.new) trays.new crew.new.core }
-    ensures ready { Ready result (B.Board.words board.new) trays.new crew.new.core }
-{
-    let mut held = None;
-    for call in calls {
-        let (answer, next) = perform_open(crew, board, trays, held, *call);
-        answers.push_reserved(answer);
-        held = next;
+impl<P: Copy> PartCall<P> for DrainingCall {
+    type Crew = DrainingCrew;
+
+    ghost performed = { draining_performed };
+
+    ghost says = { draining_says };
+
+    fn perform<B: Board>(
+        self,
+        crew: &mut DrainingCrew,
+        board: &mut B,
+        trays: &mut [P],
+        held: Option<Receipt>,
+    ) -> (Answer, Option<Receipt>) {
+        match self {
+            DrainingCall::Any(call) => perform_any(crew, board, trays, held, call),
+            DrainingCall::Report => (Answer::Report(crew.report()), held),
+        }
     }
-    held
 }
 
-/// Performs the calls after the drain, and adds what they answer.
-pub(crate) fn run_draining<B: Board, P: Copy>(
-    crew: &mut DrainingCrew,
+/// Performs the calls of one part, and adds what they answer.
+pub(crate) fn perform_all<K: PartCall<P>, B: Board, P: Copy>(
+    crew: &mut K::Crew,
     board: &mut B,
     trays: &mut [P],
     mut held: Option<Receipt>,
-    calls: &[DrainingCall],
+    calls: &[K],
     answers: &mut Vec<Answer>,
 ) -> Option<Receipt>
-    requires { (Ready held (B.Board.words board.old) trays.old crew.old.core) × ((answers.old.items ≡ []) × ((vec_len answers.old ≡ 0) × (length calls.now ≤ vec_capacity answers.old))) }
-    ensures left { Left (runs_on draining_performed draining_says calls.now [] (B.Board.words board.old) trays.old crew.old.core) (map said answers.new.items) (B.Board.words board.new) trays.new crew.new.core }
-    ensures ready { Ready result (B.Board.words board.new) trays.new crew.new.core }
+    requires { (Ready held (B.Board.words board.old) trays.old (K.Crew.AnyCrew.core crew.old)) × ((answers.old.items ≡ []) × ((vec_len answers.old ≡ 0) × (length calls.now ≤ vec_capacity answers.old))) }
+    ensures left { Left (runs_on K.performed K.says calls.now [] (B.Board.words board.old) trays.old (K.Crew.AnyCrew.core crew.old)) (map said answers.new.items) (B.Board.words board.new) trays.new (K.Crew.AnyCrew.core crew.new) }
+    ensures ready { Ready result (B.Board.words board.new) trays.new (K.Crew.AnyCrew.core crew.new) }
 {
     for call in calls {
-        let (answer, next) = perform_draining(crew, board, trays, held, *call);
+        let (answer, next) = call.perform(crew, board, trays, held);
         answers.push_reserved(answer);
         held = next;
     }
     held
-}
-
-/// Performs a call after the drain.
-fn perform_draining<B: Board, P: Copy>(
-    crew: &mut DrainingCrew,
-    board: &mut B,
-    trays: &mut [P],
-    held: Option<Receipt>,
-    call: DrainingCall,
-) -> (Answer, Option<Receipt>)
-    requires { Ready held (B.Board.words board.old) trays.old crew.old.core }
-    ensures step { Answers (draining_performed call (B.Board.words board.old) trays.old crew.old.core) (draining_says call) (said result.0) (B.Board.words board.new) trays.new crew.new.core }
-    ensures ready { Ready result.1 (B.Board.words board.new) trays.new crew.new.core }
-{
-    match call {
-        DrainingCall::Any(call) => perform_any(crew, board, trays, held, call),
-        DrainingCall::Report => (Answer::Report(crew.report()), held),
-    }
 }
 
 /// As many grants as a collect over 16 lanes can have.
@@ -147,7 +159,7 @@ pub(crate) fn close<C: AnyCrew, B: Board, P: Copy>(
     let Some(receipt) = held else {
         return;
     };
-    let _ = grant_collector_times(crew, board, trays, most_collect_grants());
+    let _ = grant_times(CollectorGrant, crew, board, trays, most_collect_grants());
     match crew.settle(receipt) {
         Ok(_) => {}
         // The collect has ended, so this does not happen: the receipt would be let go here.

@@ -15,7 +15,7 @@ ghost use Rattle.runs.specs.Runs.{Left, open_run, runs, said};
 use crate::answers::Answer;
 use crate::calls::{DrainingCall, Laying, OpenCall};
 use crate::left::{LeftCrew, Run};
-use crate::run::{close, run_draining, run_open};
+use crate::run::{close, perform_all};
 use boards::Board;
 use line::answer::Refusal;
 use line::crew::Crew;
@@ -62,7 +62,7 @@ fn run_undrained<B: Board, P: Copy>(
     let mut answers = Vec::with_capacity(heap, before.len())?;
     let mut crew = Crew::new();
     let laid = crew.lay(board, trays, laying.lanes, laying.cells, laying.start);
-    let held = run_open(&mut crew, board, trays, before, &mut answers);
+    let held = perform_all(&mut crew, board, trays, None, before, &mut answers);
     close(&mut crew, board, trays, held);
     Ok(Run {
         laid,
@@ -87,9 +87,9 @@ fn run_drained<B: Board, P: Copy>(
     let mut last = Vec::with_capacity(heap, later.len())?;
     let mut crew = Crew::new();
     let laid = crew.lay(board, trays, laying.lanes, laying.cells, laying.start);
-    let held = run_open(&mut crew, board, trays, before, &mut answers);
+    let held = perform_all(&mut crew, board, trays, None, before, &mut answers);
     let mut draining = crew.drain();
-    let held = run_draining(&mut draining, board, trays, held, later, &mut last);
+    let held = perform_all(&mut draining, board, trays, held, later, &mut last);
     close(&mut draining, board, trays, held);
     Ok(Run {
         laid,

@@ -21,4 +21,4 @@ drop-unspent-requires g c =
     let accepted = open_collect_ends times c.args.held ws ps core enough c.requires (sym c.requires.receipt ∙ ap is_some c.in-Some.is) in
     absurd
     (refused_above_0 c.in-Err.field-0.refusal
-    (ap (λ t. t.number) c.in-Err.ensures.answer ∙ ap (λ k. (settles k).answer.number) c.grant_collector_times.ensures.crew ∙ accepted))
+    (ap (λ t. t.number) c.in-Err.ensures.answer ∙ ap (λ k. (settles k).answer.number) c.grant_times.ensures.crew ∙ accepted))

@@ -11,9 +11,9 @@ use Rattle.runs.proofs.run.perform_any.Goals as goal
 pub returns-in-GrantLane : goal.returns-in-GrantLane
 returns-in-GrantLane g c =
     let call = GrantLane c.in-GrantLane.lane c.in-GrantLane.times in
-    let did = c.grant_lane_times-result.ensures in
+    let did = c.grant_times-result.ensures in
     record {
-      step = answers_same any_performed any_says c.args.call call _ _ _ _ _ _ _ c.in-GrantLane.is (answers_given _ (any_says call) (told_lane c.grant_lane_times-result.result) _ _ _ did);
+      step = answers_same any_performed any_says c.args.call call _ _ _ _ _ _ _ c.in-GrantLane.is (answers_given _ (any_says call) (told_lane c.grant_times-result.result) _ _ _ did);
       ready = granted_ready c.args.held _ _ _ _ _ _ c.requires (λ ws ps k. grants_lane ws ps k c.in-GrantLane.lane) c.in-GrantLane.times _ (grants_lane_ready c.args.held c.in-GrantLane.lane) did;
     }
 
@@ -29,9 +29,9 @@ returns-in-BeginCollect g c =
 pub returns-in-GrantCollector : goal.returns-in-GrantCollector
 returns-in-GrantCollector g c =
     let call = GrantCollector c.in-GrantCollector.times in
-    let did = c.grant_collector_times-result.ensures in
+    let did = c.grant_times-result-in-GrantCollector.ensures in
     record {
-      step = answers_same any_performed any_says c.args.call call _ _ _ _ _ _ _ c.in-GrantCollector.is (answers_given _ (any_says call) (told_collector c.grant_collector_times-result.result) _ _ _ did);
+      step = answers_same any_performed any_says c.args.call call _ _ _ _ _ _ _ c.in-GrantCollector.is (answers_given _ (any_says call) (told_collector c.grant_times-result-in-GrantCollector.result) _ _ _ did);
       ready = granted_ready c.args.held _ _ _ _ _ _ c.requires grants_collector c.in-GrantCollector.times _ (grants_collector_ready c.args.held) did;
     }
 

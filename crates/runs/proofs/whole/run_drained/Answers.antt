@@ -2,13 +2,13 @@ use Rattle.line.specs.Answers.{told_done}
 use Rattle.runs.proofs.Completion.{completes_drained, new_ready}
 use Rattle.runs.proofs.whole.run_drained.Goals as goal
 
-pub run_open-held-requires : goal.run_open-held-requires
-run_open-held-requires g c =
+pub perform_all-held-requires : goal.perform_all-held-requires
+perform_all-held-requires g c =
     let made = c.in_ok-answers.ensures in
     (new_ready (g.B.Board.words c.args.board.now) c.args.trays.now c.args.laying c.args.before.now _ c.new-crew.ensures _ _ _ _ c.lay-laid.ensures.step, (made.items, (made.len, made.capacity)))
 
 pub returns : goal.returns
 returns g c =
-    completes_drained (g.B.Board.words c.args.board.now) c.args.trays.now c.args.laying c.args.before.now _ c.new-crew.ensures (told_done c.lay-laid.result) _ _ _ c.lay-laid.ensures.step _ _ _ _ c.run_open-held.ensures.left
-    c.args.later.now _ _ _ _ _ _ _ _ c.drain-draining.ensures c.run_draining-held.ensures.left
+    completes_drained (g.B.Board.words c.args.board.now) c.args.trays.now c.args.laying c.args.before.now _ c.new-crew.ensures (told_done c.lay-laid.result) _ _ _ c.lay-laid.ensures.step _ _ _ _ c.perform_all-held.ensures.left
+    c.args.later.now _ _ _ _ _ _ _ _ c.drain-draining.ensures c.perform_all-held-2.ensures.left
     c.close.ensures.board c.close.ensures.trays c.close.ensures.crew
