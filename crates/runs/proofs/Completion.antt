@@ -13,7 +13,7 @@ use Rattle.line.specs.declared.crew.Core.{Core}
 use Rattle.line.specs.declared.receipt.Receipt.{Receipt}
 use Rattle.runs.specs.Completing.{Completes}
 use Rattle.runs.specs.Ready.{Ready}
-use Rattle.runs.specs.Runs.{Left, Ran, Said, closes, draining_performed, draining_run, draining_says, open_performed, open_run, open_says, runs, runs_on}
+use Rattle.runs.specs.Runs.{Left, Ran, Said, closes, draining_performed, draining_run, draining_says, open_performed, open_run, open_says, runs, runs_on, Whole}
 use Rattle.runs.specs.declared.calls.DrainingCall.{DrainingCall}
 use Rattle.runs.specs.declared.calls.Laying.{Laying}
 use Rattle.runs.specs.declared.calls.OpenCall.{OpenCall}
@@ -29,6 +29,10 @@ length_laid_words ws n k start h =
     omega (arith, length-append (replicate n empty_word) (zeroes ++ rest), length-append zeroes rest, length-replicate n empty_word, length-replicate {A = ℕ} (2 * n + n * k) 0, length-drop (words_needed (shape n k)) ws)
 
 module _ {P : Type 0} where
+  -- a run completes what equals it
+  pub completes_same : (w w' : Whole P) (told : Told) (before : List Said) (after : Option (List Said)) (ws : List ℕ) (ps : List P) (c : Core) → w ≡ w' → Completes w' told before after ws ps c → Completes w told before after ws ps c
+  completes_same w w' told before after ws ps c e = subst (λ x. Completes x told before after ws ps c) (sym e)
+
   -- what equals the state that a run left is closed alike
   closed_same : (r : Ran P) (answers : List Said) (ws : List ℕ) (ps : List P) (c : Core) → Left r answers ws ps c → closes ws ps c ≡ closes r.words r.trays r.crew
   closed_same r answers ws ps c left = ap (λ x. closes x ps c) left.board ∙ ap (λ x. closes r.words x c) left.trays ∙ ap (closes r.words r.trays) left.crew
@@ -72,14 +76,14 @@ module _ {P : Type 0} where
           let same = closed_same (open_run o calls) answers ws₂ ps₂ c₂ opened in
           record { lays = by_new.answer; says_before = opened.says; says_after = refl; board = e ∙ ap (λ x. x.words) same; trays = f ∙ ap (λ x. x.trays) same; crew = g ∙ ap (λ x. x.crew) same }
 
-      pub completes_drained : (later : List DrainingCall) (d : Core) (last : List Said) (ws₃ ws₄ : List ℕ) (ps₃ ps₄ : List P) (c₃ c₄ : Core) → d ≡ drained c₂ →
-          Left (runs_on draining_performed draining_says later [] ws₂ ps₂ d) last ws₃ ps₃ c₃ →
+      pub completes_drained : (later : List DrainingCall) (ws' : List ℕ) (ps' : List P) (d : Core) (last : List Said) (ws₃ ws₄ : List ℕ) (ps₃ ps₄ : List P) (c₃ c₄ : Core) → ws' ≡ ws₂ → ps' ≡ ps₂ → d ≡ drained c₂ →
+          Left (runs_on draining_performed draining_says later [] ws' ps' d) last ws₃ ps₃ c₃ →
           ws₄ ≡ (closes ws₃ ps₃ c₃).words → ps₄ ≡ (closes ws₃ ps₃ c₃).trays → c₄ ≡ (closes ws₃ ps₃ c₃).crew →
           Completes (runs ws ps laying calls (Some later)) told answers (Some last) ws₄ ps₄ c₄
-      completes_drained later d last ws₃ ws₄ ps₃ ps₄ c₃ c₄ turned ran_on e f g =
+      completes_drained later ws' ps' d last ws₃ ws₄ ps₃ ps₄ c₃ c₄ same_words same_trays turned ran_on e f g =
           let r = open_run o calls in
           let drains : Left (draining_run r later) last ws₃ ps₃ c₃ =
-          subst (λ x. Left x last ws₃ ps₃ c₃) (onward draining_performed draining_says later [] [] ws₂ r.words ps₂ r.trays d (drained r.crew) refl opened.board opened.trays (turned ∙ ap drained opened.crew)) ran_on in
+          subst (λ x. Left x last ws₃ ps₃ c₃) (onward draining_performed draining_says later [] [] ws' r.words ps' r.trays d (drained r.crew) refl (same_words ∙ opened.board) (same_trays ∙ opened.trays) (turned ∙ ap drained opened.crew)) ran_on in
           let same = closed_same (draining_run r later) last ws₃ ps₃ c₃ drains in
           record { lays = by_new.answer; says_before = opened.says; says_after = ap Some drains.says; board = e ∙ ap (λ x. x.words) same; trays = f ∙ ap (λ x. x.trays) same; crew = g ∙ ap (λ x. x.crew) same }
 

@@ -1,6 +1,8 @@
 -- A collect that is open at the end of a run is granted to its end, and its settling is accepted.
 use Rattle.std.proofs.Common.{◌≡◌, ℕ, zero, suc, ◌≤◌, Bool, true, false, cond, ◌&&◌, List, Option, sym, refl, ap, ◌∙◌, subst, ⊎_elim, arith}
+use Rattle.std.proofs.Math.Logic.{∥∥₁_elim}
 use Rattle.std.proofs.lemmas.Bool.{both_ways, cases_Bool, cond_both, cond-true}
+use mathlib.Core.Bool.{Bool-set}
 use Rattle.line.proofs.Tested.{passed}
 use Rattle.line.specs.Calls.{Outcome, board_holds, collector_goes, collector_grant_tests, collector_steps, grants_collector, laid, refuse, refuse_crew, settles, settles_at, trays_hold}
 use Rattle.line.specs.Collect.{begun, collect_answer_at, collector_access, collector_at, collector_next, under_way}
@@ -120,7 +122,7 @@ module _ {P : Type 0} where
       (⊎_elim going quiet (cases_Bool (under_way c.collector.stage)))
     where
       going : under_way c.collector.stage ≡ true → ended (repeated grants_collector times ws ps c).crew.collector.stage ≡ true
-      going g = let e = r.ends g in ends_in times e.0 e.1 held ws ps c (omega (arith, e.2)) r g e.3
+      going g = ∥∥₁_elim (r.ends g) (Bool-set _ _) (λ e. ends_in times e.0 e.1 held ws ps c (omega (arith, e.2)) r g e.3)
 
       quiet : under_way c.collector.stage ≡ false → ended (repeated grants_collector times ws ps c).crew.collector.stage ≡ true
       quiet q = ap (λ k. ended k.collector.stage) (stands_still times ws ps c q).2 ∙ ended_otherwise c.collector.stage is-begun q

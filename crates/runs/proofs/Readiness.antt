@@ -1,5 +1,6 @@
 -- A run stays ready for its next call.
 use Rattle.std.proofs.Common.{◌≡◌, ℕ, zero, suc, ◌+◌, ◌*◌, ◌%◌, ◌≤◌, Bool, true, false, cond, ◌&&◌, eqb, ltb, leb, List, length, is_some, Option, sym, refl, ap, ◌∙◌, subst, arith}
+use Rattle.std.proofs.Math.Logic.{∥∥₁_map}
 use Rattle.std.proofs.lemmas.Bool.{both_ways, cond_both, ltb-true}
 use Rattle.line.proofs.CollectEndings.{each-collect-ends-by-grant-2n+9}
 use Rattle.line.specs.Calls.{begin_collect_tests, begins_collect, begins_post, collector_grant_tests, collector_steps, grants_collector, grants_lane, laid, refuse, refuse_crew, settles, settles_at}
@@ -91,7 +92,7 @@ module _ {P : Type 0} where
         few = subst (λ (s : Shape). s.lanes ≤ 16) (sym same.shape) r.few;
         laid_first = λ h. laid_same ∙ r.laid_first (sym stage_same ∙ h);
         room = λ h. ap (λ s. leb (words_needed s) (length ws') && leb (trays_needed s) (length ps')) same.shape ∙ ap (λ n. leb (words_needed c.shape) n && leb (trays_needed c.shape) (length ps')) same.board ∙ ap (λ n. leb (words_needed c.shape) (length ws) && leb (trays_needed c.shape) n) same.trays ∙ r.room (sym laid_same ∙ h);
-        ends = λ h. moved (r.ends (sym (ap (λ k. under_way k.stage) same.collector) ∙ h));
+        ends = λ h. ∥∥₁_map (r.ends (sym (ap (λ k. under_way k.stage) same.collector) ∙ h)) moved;
       }
     where
       moved : Ending c → Ending c'
@@ -116,13 +117,12 @@ module _ {P : Type 0} where
       let next = collector_next s c.heads k.stage w in
       let is_begun : begun k.stage ≡ true = begun_under_way k.stage going in
       let still : begun (collector_at (one_more k.grants) next).stage ≡ true = begun_still next (one_more k.grants) (on_or_ended s c.heads k.stage w going) in
-      let e = r.ends going in
       record {
         receipt = r.receipt ∙ is_begun ∙ sym still;
         few = r.few;
         laid_first = λ _. r.laid_first is_begun;
         room = λ h. ap (λ n. leb (words_needed s) n && leb (trays_needed s) (length (trays_after s access ps))) (length_words_after s access ws) ∙ ap (λ n. leb (words_needed s) (length ws) && leb (trays_needed s) n) (length_trays_after s access ps) ∙ r.room h;
-        ends = ending_goes_on s c.heads e.0 e.1 k w e.2 e.3;
+        ends = λ u. ∥∥₁_map (r.ends going) (λ e. ending_goes_on s c.heads e.0 e.1 k w e.2 e.3 u);
       }
 
   pub grants_collector_ready : (held : Option Receipt) (ws : List ℕ) (ps : List P) (c : Core) → Ready held ws ps c → let o = grants_collector ws ps c in Ready held o.words o.trays o.crew
@@ -144,7 +144,7 @@ module _ {P : Type 0} where
         few = r.few;
         laid_first = λ _. passes.0;
         room = r.room;
-        ends = λ _. (2 * c.shape.lanes + 9, 0, omega (arith, r.few), each-collect-ends-by-grant-2n+9 c.shape c.heads (omega (arith, ltb-true 0 c.shape.lanes passes.0)) r.few);
+        ends = λ _. ∣ (2 * c.shape.lanes + 9, 0, omega (arith, r.few), each-collect-ends-by-grant-2n+9 c.shape c.heads (omega (arith, ltb-true 0 c.shape.lanes passes.0)) r.few) ∣₁;
       })
 
   settled_ready : (held held' : Option Receipt) (ws : List ℕ) (ps : List P) (c : Core) (stage : CollectStage) → Ready held ws ps c → is_some held' ≡ begun (settles_at c stage).crew.collector.stage →

@@ -1,13 +1,23 @@
 -- A whole run, as its caller gets it.
-use Rattle.std.specs.Prelude.{◌≡◌, ℕ, List, map, vec_items, Option, Vec}
+use Rattle.std.specs.Prelude.{◌≡◌, ◌≤◌, ℕ, List, [], length, map, vec_capacity, vec_items, vec_len, Some, None, Option, Vec}
 use Rattle.std.specs.Option.{option_map}
 use Rattle.std.specs.declared.alloc.Global.{Global}
 use Rattle.line.specs.Answers.{Told}
 use Rattle.line.specs.declared.crew.Core.{Core}
 use Rattle.runs.specs.declared.answers.Answer.{Answer}
+use Rattle.runs.specs.declared.calls.DrainingCall.{DrainingCall}
 use Rattle.runs.specs.declared.left.LeftCrew.{LeftCrew}
 use Rattle.runs.specs.declared.left.LeftCrew.TheVariants.{Open, Draining}
 use Rattle.runs.specs.Runs.{Said, Whole, said}
+
+-- nothing is answered yet, and the answers to these calls have room
+abbrev pub HasRoom : {X : Type 0} → Vec Answer Global → List X → Type 0
+HasRoom answers calls = (answers.items ≡ []) × (vec_len answers ≡ 0) × (length calls ≤ vec_capacity answers)
+
+-- the calls after the drain; none without one
+abbrev pub later_calls : Option (Vec DrainingCall Global) → List DrainingCall
+later_calls None = []
+later_calls (Some calls) = vec_items calls
 
 -- what the crew that a run leaves keeps
 abbrev pub core_left : LeftCrew → Core

@@ -19,4 +19,4 @@ pub record Ready {P : Type 0} (held : Option Receipt) (ws : List ℕ) (ps : List
   -- a collect is begun only on a laid line, and a laid line has its words and trays
   pub laid_first : begun c.collector.stage ≡ true → laid c ≡ true
   pub room : laid c ≡ true → (board_holds ws ps c c.shape && trays_hold ws ps c c.shape) ≡ true
-  pub ends : under_way c.collector.stage ≡ true → Ending c
+  pub ends : under_way c.collector.stage ≡ true → ∥ Ending c ∥₁

@@ -1,10 +1,12 @@
 //! Grants made one after another, up to the first answer other than on.
-ghost use Rattle.std.specs.Prelude.{◌≡◌, ℕ, List, [], Ok, Result};
+ghost use Rattle.std.specs.Prelude.{◌≡◌, ℕ, List, [], Ok, Option, Result};
 ghost use Rattle.line.specs.Answers.{Told, told, told_collector, told_lane};
 ghost use Rattle.line.specs.Calls.{Gives, Outcome, grants_collector, grants_lane};
 ghost use Rattle.line.specs.declared.answer.Refusal.{Refusal};
 ghost use Rattle.line.specs.declared.crew.Core.{Core};
-ghost use Rattle.runs.specs.Runs.{is_on, repeated};
+ghost use Rattle.line.specs.declared.receipt.Receipt.{Receipt};
+ghost use Rattle.runs.specs.Ready.{Ready};
+ghost use Rattle.runs.specs.Runs.{is_on};
 
 use boards::Board;
 use line::answer::{CollectorAnswer, LaneAnswer, Refusal};
@@ -20,14 +22,15 @@ pub(crate) trait Grant<P: Copy>: Copy {
     /// An answer's number and values.
     ghost tells: { Result Self.Answer Refusal → Told };
 
-    /// Makes the grant.
+    /// Makes the grant. A run is as ready for its next call then as before.
     fn make<C: AnyCrew, B: Board>(
         self,
         crew: &mut C,
         board: &mut B,
         trays: &mut [P],
     ) -> Result<Self::Answer, Refusal>
-        ensures { Gives (grants self (B.Board.words board.old) trays.old (C.AnyCrew.core crew.old)) (tells result) (B.Board.words board.new) trays.new (C.AnyCrew.core crew.new) };
+        ensures step { Gives (grants self (B.Board.words board.old) trays.old (C.AnyCrew.core crew.old)) (tells result) (B.Board.words board.new) trays.new (C.AnyCrew.core crew.new) }
+        ensures ready { (held : Option Receipt) → Ready held (B.Board.words board.old) trays.old (C.AnyCrew.core crew.old) → Ready held (B.Board.words board.new) trays.new (C.AnyCrew.core crew.new) };
 
     /// The answer on.
     fn on() -> Self::Answer
@@ -96,23 +99,4 @@ impl<P: Copy> Grant<P> for CollectorGrant {
     fn is_on(answer: &Result<CollectorAnswer, Refusal>) -> bool {
         matches!(answer, Ok(CollectorAnswer::On))
     }
-}
-
-/// Makes a grant at most `times` times, up to the first answer other than on, and gives the last answer.
-pub(crate) fn grant_times<G: Grant<P>, C: AnyCrew, B: Board, P: Copy>(
-    grant: G,
-    crew: &mut C,
-    board: &mut B,
-    trays: &mut [P],
-    times: u16,
-) -> Result<G::Answer, Refusal>
-    ensures { Gives (repeated (G.grants grant) times (B.Board.words board.old) trays.old (C.AnyCrew.core crew.old)) (G.tells result) (B.Board.words board.new) trays.new (C.AnyCrew.core crew.new) }
-{
-    for _made in 0..times {
-        let answer = grant.make(crew, board, trays);
-        if !G::is_on(&answer) {
-            return answer;
-        }
-    }
-    Ok(G::on())
 }

@@ -1,5 +1,5 @@
 //! A whole run: a line is laid, calls are performed, and what is open at the end is closed.
-ghost use Rattle.std.specs.Prelude.{◌≡◌, ℕ, ◌≤◌, List, [], map, length, Some, None, vec_items, vec_len, vec_capacity, MatchResult};
+ghost use Rattle.std.specs.Prelude.{◌≡◌, ℕ, ◌≤◌, List, [], map, length, Some, None, false, is_some, vec_items, vec_len, MatchOption, MatchResult};
 ghost use Rattle.std.specs.Option.{option_map};
 ghost use Rattle.history.specs.Performing.{State};
 ghost use Rattle.history.specs.Promise.{EveryListOfCallsKeepsThePromise};
@@ -8,14 +8,14 @@ ghost use Rattle.line.specs.Answers.{told_done};
 ghost use Rattle.line.specs.Calls.{lays};
 ghost use Rattle.line.specs.Crew.{never_laid};
 ghost use Rattle.runs.specs.AtHand.{ReachTheSame, TheseCallsKeepThePromise};
-ghost use Rattle.runs.specs.Completing.{Completes, core_left, said_after};
+ghost use Rattle.runs.specs.Completing.{Completes, HasRoom, core_left, later_calls, said_after};
 ghost use Rattle.runs.specs.Ready.{Ready};
 ghost use Rattle.runs.specs.Runs.{Left, open_run, runs, said};
 
 use crate::answers::Answer;
 use crate::calls::{DrainingCall, Laying, OpenCall};
 use crate::left::{LeftCrew, Run};
-use crate::run::{close, perform_all};
+use crate::running::Running;
 use boards::Board;
 use line::answer::Refusal;
 use line::crew::Crew;
@@ -43,58 +43,90 @@ pub fn run_calls<B: Board, P: Copy>(
     ensures kept { TheseCallsKeepThePromise (B.Board.words board.old) trays.old laying before.now (option_map vec_items after.now) }
     ensures same { (s : State P) (later : List LaterCall) → ReachTheSame s before.now later }
 {
+    run_list(heap, board, trays, laying, before, after)
+}
+
+/// The run, without what every run keeps.
+fn run_list<B: Board, P: Copy>(
+    heap: Global,
+    board: &mut B,
+    trays: &mut [P],
+    laying: Laying,
+    before: &[OpenCall<P>],
+    after: &Option<Vec<DrainingCall>>,
+) -> Result<Run, AllocError>
+    ensures { MatchResult result (λ done. Completes (runs (B.Board.words board.old) trays.old laying before.now (option_map vec_items after.now)) (told_done done.laid) (map said done.before.items) (said_after done.after) (B.Board.words board.new) trays.new (core_left done.crew)) (λ _. (B.Board.words board.new ≡ B.Board.words board.old) × (trays.new ≡ trays.old)) }
+{
+    let mut told = Vec::with_capacity(heap, before.len())?;
+    let mut told_later = Vec::with_capacity(heap, count_of(after))?;
+    let (laid, crew) = perform_list(
+        board,
+        trays,
+        laying,
+        before,
+        after,
+        &mut told,
+        &mut told_later,
+    );
+    Ok(Run {
+        laid,
+        before: told,
+        after: match after {
+            None => None,
+            Some(_) => Some(told_later),
+        },
+        crew,
+    })
+}
+
+/// How many calls follow the drain; 0 without one.
+fn count_of(after: &Option<Vec<DrainingCall>>) -> usize
+    ensures { result ≡ length (later_calls after.now) }
+{
     match after {
-        None => run_undrained(heap, board, trays, laying, before),
-        Some(later) => run_drained(heap, board, trays, laying, before, later.as_slice()),
+        None => 0,
+        Some(later) => later.len(),
     }
 }
 
-/// A run without a drain.
-fn run_undrained<B: Board, P: Copy>(
-    heap: Global,
+/// The run, with room for all answers: what the laying answers, and the crew that is left.
+fn perform_list<B: Board, P: Copy>(
     board: &mut B,
     trays: &mut [P],
     laying: Laying,
     before: &[OpenCall<P>],
-) -> Result<Run, AllocError>
-    ensures { MatchResult result (λ done. Completes (runs (B.Board.words board.old) trays.old laying before.now None) (told_done done.laid) (map said done.before.items) (said_after done.after) (B.Board.words board.new) trays.new (core_left done.crew)) (λ _. (B.Board.words board.new ≡ B.Board.words board.old) × (trays.new ≡ trays.old)) }
+    after: &Option<Vec<DrainingCall>>,
+    told: &mut Vec<Answer>,
+    told_later: &mut Vec<Answer>,
+) -> (Result<(), Refusal>, LeftCrew)
+    requires { HasRoom told.old before.now × HasRoom told_later.old (later_calls after.now) }
+    ensures { Completes (runs (B.Board.words board.old) trays.old laying before.now (option_map vec_items after.now)) (told_done result.0) (map said told.new.items) (option_map (λ _. map said told_later.new.items) after.now) (B.Board.words board.new) trays.new (core_left result.1) }
 {
-    let mut answers = Vec::with_capacity(heap, before.len())?;
     let mut crew = Crew::new();
     let laid = crew.lay(board, trays, laying.lanes, laying.cells, laying.start);
-    let held = perform_all(&mut crew, board, trays, None, before, &mut answers);
-    close(&mut crew, board, trays, held);
-    Ok(Run {
-        laid,
-        before: answers,
-        after: None,
-        crew: LeftCrew::Open(crew),
-    })
-}
-
-/// A run with a drain after the calls `before`.
-fn run_drained<B: Board, P: Copy>(
-    heap: Global,
-    board: &mut B,
-    trays: &mut [P],
-    laying: Laying,
-    before: &[OpenCall<P>],
-    later: &[DrainingCall],
-) -> Result<Run, AllocError>
-    ensures { MatchResult result (λ done. Completes (runs (B.Board.words board.old) trays.old laying before.now (Some later.now)) (told_done done.laid) (map said done.before.items) (said_after done.after) (B.Board.words board.new) trays.new (core_left done.crew)) (λ _. (B.Board.words board.new ≡ B.Board.words board.old) × (trays.new ≡ trays.old)) }
-{
-    let mut answers = Vec::with_capacity(heap, before.len())?;
-    let mut last = Vec::with_capacity(heap, later.len())?;
-    let mut crew = Crew::new();
-    let laid = crew.lay(board, trays, laying.lanes, laying.cells, laying.start);
-    let held = perform_all(&mut crew, board, trays, None, before, &mut answers);
-    let mut draining = crew.drain();
-    let held = perform_all(&mut draining, board, trays, held, later, &mut last);
-    close(&mut draining, board, trays, held);
-    Ok(Run {
-        laid,
-        before: answers,
-        after: Some(last),
-        crew: LeftCrew::Draining(draining),
-    })
+    let mut running = Running {
+        crew,
+        board,
+        trays,
+        held: None,
+    };
+    running.perform_all(before, told);
+    match after {
+        None => {
+            running.close();
+            (laid, LeftCrew::Open(running.into_crew()))
+        }
+        Some(later) => {
+            let (crew, held) = running.into_parts();
+            let mut draining = Running {
+                crew: crew.drain(),
+                board,
+                trays,
+                held,
+            };
+            draining.perform_all(later.as_slice(), told_later);
+            draining.close();
+            (laid, LeftCrew::Draining(draining.into_crew()))
+        }
+    }
 }

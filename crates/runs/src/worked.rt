@@ -2,8 +2,6 @@
 ghost use Rattle.runs.specs.Worked.{WorkedCasesComeOut};
 
 /// The worked cases come out as they were written down.
-pub fn worked_cases_come_out() -> u8
+pub fn worked_cases_come_out()
     ensures { WorkedCasesComeOut }
-{
-    0
-}
+{}

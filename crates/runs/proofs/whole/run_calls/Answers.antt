@@ -1,23 +1,14 @@
-use Rattle.std.proofs.Common.{vec_items, rules}
+use Rattle.std.proofs.Common.{vec_items}
 use Rattle.std.specs.Option.{option_map}
 use Rattle.history.proofs.Promised.{every_list_of_calls_keeps_the_promise}
 use Rattle.runs.proofs.Ones.{these_calls_keep_the_promise}
 use Rattle.runs.proofs.Reaching.{reach_the_same}
 use Rattle.runs.proofs.whole.run_calls.Goals as goal
 
-pub returns-in-None : goal.returns-in-None
-returns-in-None g c =
+pub returns : goal.returns
+returns g c =
     record {
-      run = simp c.in-None.is c.run_undrained.ensures;
-      promise = every_list_of_calls_keeps_the_promise g.row.P.Denot;
-      kept = these_calls_keep_the_promise (g.B.Board.words c.args.board.now) c.args.trays.now c.args.laying c.args.before.now (option_map vec_items c.args.after.now);
-      same = λ s later. reach_the_same s c.args.before.now later;
-    }
-
-pub returns-in-Some : goal.returns-in-Some
-returns-in-Some g c =
-    record {
-      run = search rules;
+      run = c.run_list.ensures;
       promise = every_list_of_calls_keeps_the_promise g.row.P.Denot;
       kept = these_calls_keep_the_promise (g.B.Board.words c.args.board.now) c.args.trays.now c.args.laying c.args.before.now (option_map vec_items c.args.after.now);
       same = λ s later. reach_the_same s c.args.before.now later;
