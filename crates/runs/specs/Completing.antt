@@ -6,8 +6,6 @@ use Rattle.line.specs.Answers.{Told}
 use Rattle.line.specs.declared.crew.Core.{Core}
 use Rattle.runs.specs.declared.answers.Answer.{Answer}
 use Rattle.runs.specs.declared.calls.DrainingCall.{DrainingCall}
-use Rattle.runs.specs.declared.left.LeftCrew.{LeftCrew}
-use Rattle.runs.specs.declared.left.LeftCrew.TheVariants.{Open, Draining}
 use Rattle.runs.specs.Runs.{Said, Whole, said}
 
 -- nothing is answered yet, and the answers to these calls have room
@@ -18,11 +16,6 @@ HasRoom answers calls = (answers.items ≡ []) × (vec_len answers ≡ 0) × (le
 abbrev pub later_calls : Option (Vec DrainingCall Global) → List DrainingCall
 later_calls None = []
 later_calls (Some calls) = vec_items calls
-
--- what the crew that a run leaves keeps
-abbrev pub core_left : LeftCrew → Core
-core_left (Open crew) = crew.core
-core_left (Draining crew) = crew.core
 
 -- what the calls after the drain said, if there was one
 abbrev pub said_after : Option (Vec Answer Global) → Option (List Said)

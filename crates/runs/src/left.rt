@@ -1,14 +1,7 @@
 //! What a run leaves.
 use crate::answers::Answer;
 use line::answer::Refusal;
-use line::crew::{Crew, DrainingCrew};
-
-/// The crew that a run leaves: open, or draining if there was a drain.
-#[derive(Drop)]
-pub enum LeftCrew {
-    Open(Crew),
-    Draining(DrainingCrew),
-}
+use line::either::EitherCrew;
 
 /// What the calls of a run answered, and the crew that they left.
 #[derive(Drop)]
@@ -19,5 +12,6 @@ pub struct Run {
     pub before: Vec<Answer>,
     /// What each call after the drain answered, if there was a drain.
     pub after: Option<Vec<Answer>>,
-    pub crew: LeftCrew,
+    /// Open, or draining if there was a drain.
+    pub crew: EitherCrew,
 }

@@ -7,18 +7,20 @@ ghost use Rattle.runs.specs.declared.calls.DrainingCall.{DrainingCall as LaterCa
 ghost use Rattle.line.specs.Answers.{told_done};
 ghost use Rattle.line.specs.Calls.{lays};
 ghost use Rattle.line.specs.Crew.{never_laid};
+ghost use Rattle.line.specs.Either.{core_kept};
 ghost use Rattle.runs.specs.AtHand.{ReachTheSame, TheseCallsKeepThePromise};
-ghost use Rattle.runs.specs.Completing.{Completes, HasRoom, core_left, later_calls, said_after};
+ghost use Rattle.runs.specs.Completing.{Completes, HasRoom, later_calls, said_after};
 ghost use Rattle.runs.specs.Ready.{Ready};
 ghost use Rattle.runs.specs.Runs.{Left, open_run, runs, said};
 
 use crate::answers::Answer;
 use crate::calls::{DrainingCall, Laying, OpenCall};
-use crate::left::{LeftCrew, Run};
+use crate::left::Run;
 use crate::running::Running;
 use boards::Board;
 use line::answer::Refusal;
 use line::crew::Crew;
+use line::either::EitherCrew;
 use line::receipt::Receipt;
 use std::alloc::{AllocError, Global};
 
@@ -38,7 +40,7 @@ pub fn run_calls<B: Board, P: Copy>(
     before: &[OpenCall<P>],
     after: &Option<Vec<DrainingCall>>,
 ) -> Result<Run, AllocError>
-    ensures run { MatchResult result (λ done. Completes (runs (B.Board.words board.old) trays.old laying before.now (option_map vec_items after.now)) (told_done done.laid) (map said done.before.items) (said_after done.after) (B.Board.words board.new) trays.new (core_left done.crew)) (λ _. (B.Board.words board.new ≡ B.Board.words board.old) × (trays.new ≡ trays.old)) }
+    ensures run { MatchResult result (λ done. Completes (runs (B.Board.words board.old) trays.old laying before.now (option_map vec_items after.now)) (told_done done.laid) (map said done.before.items) (said_after done.after) (B.Board.words board.new) trays.new (core_kept done.crew)) (λ _. (B.Board.words board.new ≡ B.Board.words board.old) × (trays.new ≡ trays.old)) }
     ensures promise { EveryListOfCallsKeepsThePromise P }
     ensures kept { TheseCallsKeepThePromise (B.Board.words board.old) trays.old laying before.now (option_map vec_items after.now) }
     ensures same { (s : State P) (later : List LaterCall) → ReachTheSame s before.now later }
@@ -55,7 +57,7 @@ fn run_list<B: Board, P: Copy>(
     before: &[OpenCall<P>],
     after: &Option<Vec<DrainingCall>>,
 ) -> Result<Run, AllocError>
-    ensures { MatchResult result (λ done. Completes (runs (B.Board.words board.old) trays.old laying before.now (option_map vec_items after.now)) (told_done done.laid) (map said done.before.items) (said_after done.after) (B.Board.words board.new) trays.new (core_left done.crew)) (λ _. (B.Board.words board.new ≡ B.Board.words board.old) × (trays.new ≡ trays.old)) }
+    ensures { MatchResult result (λ done. Completes (runs (B.Board.words board.old) trays.old laying before.now (option_map vec_items after.now)) (told_done done.laid) (map said done.before.items) (said_after done.after) (B.Board.words board.new) trays.new (core_kept done.crew)) (λ _. (B.Board.words board.new ≡ B.Board.words board.old) × (trays.new ≡ trays.old)) }
 {
     let mut told = Vec::with_capacity(heap, before.len())?;
     let mut told_later = Vec::with_capacity(heap, count_of(after))?;
@@ -98,9 +100,9 @@ fn perform_list<B: Board, P: Copy>(
     after: &Option<Vec<DrainingCall>>,
     told: &mut Vec<Answer>,
     told_later: &mut Vec<Answer>,
-) -> (Result<(), Refusal>, LeftCrew)
+) -> (Result<(), Refusal>, EitherCrew)
     requires { HasRoom told.old before.now × HasRoom told_later.old (later_calls after.now) }
-    ensures { Completes (runs (B.Board.words board.old) trays.old laying before.now (option_map vec_items after.now)) (told_done result.0) (map said told.new.items) (option_map (λ _. map said told_later.new.items) after.now) (B.Board.words board.new) trays.new (core_left result.1) }
+    ensures { Completes (runs (B.Board.words board.old) trays.old laying before.now (option_map vec_items after.now)) (told_done result.0) (map said told.new.items) (option_map (λ _. map said told_later.new.items) after.now) (B.Board.words board.new) trays.new (core_kept result.1) }
 {
     let mut crew = Crew::new();
     let laid = crew.lay(board, trays, laying.lanes, laying.cells, laying.start);
@@ -114,7 +116,7 @@ fn perform_list<B: Board, P: Copy>(
     match after {
         None => {
             running.close();
-            (laid, LeftCrew::Open(running.into_crew()))
+            (laid, EitherCrew::Open(running.into_crew()))
         }
         Some(later) => {
             let (crew, held) = running.into_parts();
@@ -126,7 +128,7 @@ fn perform_list<B: Board, P: Copy>(
             };
             draining.perform_all(later.as_slice(), told_later);
             draining.close();
-            (laid, LeftCrew::Draining(draining.into_crew()))
+            (laid, EitherCrew::Draining(draining.into_crew()))
         }
     }
 }
