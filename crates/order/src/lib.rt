@@ -12,19 +12,16 @@ ghost use Rattle.order.specs.Histories.{SmallHistoriesAreJudgedRightly};
 /// Every history whose events met their guards has a single-file order, for payloads of any type and any capacity.
 pub fn guarded_histories_have_a_single_file_order<P>()
     ensures { GuardedHistoriesHaveASingleFileOrder P }
-{
-}
+{}
 
 /// In such a history, once nothing waits and nothing is under way, the frames posted and the frames delivered are
 /// the same, each once.
 pub fn guarded_histories_balance<P>()
     ensures { GuardedHistoriesBalance P }
-{
-}
+{}
 
 /// The definition of a single-file order says of ten small histories that the order written beside each is one, and of
 /// eleven wrong ones that there is none.
 pub fn small_histories_are_judged_rightly()
     ensures { SmallHistoriesAreJudgedRightly }
-{
-}
+{}
