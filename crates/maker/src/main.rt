@@ -16,25 +16,31 @@ mod ram;
 use line::answer::{CollectorAnswer, LaneAnswer, Refusal};
 use line::calls::AnyCrew;
 use line::collector::Collected;
-use line::crew::Crew;
+use line::crew::{Crew, DrainingCrew};
 use line::receipt::{Receipt, Unspent};
 use ram::CameraRam;
 use std::mem::ManuallyDrop;
 use std::{fmt, io};
+use thiserror::Error;
 
 /// A row of pixels as a tile read it out.
-#[derive(Clone, Copy)]
+#[derive(Clone, Copy, Default)]
 struct Frame {
     exposure: u16,
     row: u16,
     level: i32,
 }
 
-const BLANK: Frame = Frame {
-    exposure: 0,
-    row: 0,
-    level: 0,
-};
+impl fmt::Display for Frame {
+    fn fmt<W: fmt::Write>(&self, f: &mut fmt::Formatter<W>) -> fmt::Result {
+        let Frame {
+            exposure,
+            row,
+            level,
+        } = *self;
+        write!(f, "exposure {exposure}, row {row}, level {level}")
+    }
+}
 
 /// Trays for two lanes of three cells: two hands, the collector's hand and six cells.
 const TRAYS: usize = 9;
@@ -43,217 +49,185 @@ const TRAYS: usize = 9;
 const MOST_GRANTS: usize = 13;
 
 /// Why the camera stops. A receipt that was not settled cannot be let go, so it leaves with the error, which keeps it.
-#[derive(Drop)]
+#[derive(Drop, Error)]
+#[derive_where(Debug)]
 enum Stop {
-    Refused(Refusal),
-    Io(io::Error),
-    Unsettled(ManuallyDrop<Receipt>),
+    #[error("refused {}", .0.number())]
+    Refused(#[from] Refusal),
+    #[error(transparent)]
+    Io(#[from] io::Error),
+    #[error("a collect was not settled")]
+    Unsettled(#[derive_where(skip)] ManuallyDrop<Receipt>),
 }
 
-impl fmt::Debug for Stop {
+impl From<Unspent> for Stop {
+    fn from(unspent: Unspent) -> Stop {
+        let Unspent {
+            refusal: _,
+            receipt,
+        } = unspent;
+        Stop::Unsettled(unsafe { ManuallyDrop::new_unchecked(receipt) })
+    }
+}
+
+/// How a lane answered, in words.
+#[derive(Clone, Copy)]
+struct Told(LaneAnswer);
+
+impl fmt::Display for Told {
     fn fmt<W: fmt::Write>(&self, f: &mut fmt::Formatter<W>) -> fmt::Result {
-        match self {
-            Stop::Refused(refusal) => {
-                let number = refusal.number();
-                write!(f, "refused {number}")
-            }
-            Stop::Io(error) => write!(f, "{error}"),
-            Stop::Unsettled(_) => write!(f, "a collect was not settled"),
-        }
-    }
-}
-
-impl From<Refusal> for Stop {
-    fn from(refusal: Refusal) -> Stop {
-        Stop::Refused(refusal)
-    }
-}
-
-impl From<io::Error> for Stop {
-    fn from(error: io::Error) -> Stop {
-        Stop::Io(error)
-    }
-}
-
-/// Grants a lane until its post ends, and says how it ended.
-fn post_to_end<C: AnyCrew>(
-    rt: &HostRuntime,
-    crew: &mut C,
-    ram: &mut CameraRam,
-    trays: &mut [Frame],
-    lane: usize,
-) -> Result<(), Stop> {
-    for _ in 0..MOST_GRANTS {
-        match crew.grant_lane(ram, trays, lane)? {
-            LaneAnswer::On => {}
+        match self.0 {
+            LaneAnswer::On => write!(f, "goes on"),
             LaneAnswer::Posted { stamp, grants } => {
-                println!(rt; "lane {lane}: posted under stamp {stamp}, {grants} grants")?;
-                return Ok(());
+                write!(f, "posted under stamp {stamp}, {grants} grants")
             }
-            LaneAnswer::Full { grants } => {
-                println!(rt; "lane {lane}: full, {grants} grant")?;
-                return Ok(());
-            }
-            LaneAnswer::UsedUp { grants } => {
-                println!(rt; "lane {lane}: no stamp left, {grants} grants")?;
-                return Ok(());
-            }
+            LaneAnswer::Full { grants } => write!(f, "full, {grants} grant"),
+            LaneAnswer::UsedUp { grants } => write!(f, "no stamp left, {grants} grants"),
         }
-    }
-    Ok(())
-}
-
-/// Begins a collect, grants it to its end and settles it.
-fn collect<C: AnyCrew>(
-    crew: &mut C,
-    ram: &mut CameraRam,
-    trays: &mut [Frame],
-) -> Result<Collected, Stop> {
-    let receipt = crew.begin_collect()?;
-    for _ in 0..MOST_GRANTS {
-        if let Ok(CollectorAnswer::Ended(_)) = crew.grant_collector(ram, trays) {
-            break;
-        }
-    }
-    match crew.settle(receipt) {
-        Ok(how) => Ok(how),
-        Err(
-            Unspent {
-                refusal: _,
-                receipt,
-            },
-        ) => Err(Stop::Unsettled(unsafe { ManuallyDrop::new_unchecked(receipt) })),
     }
 }
 
-/// Collects a frame and prints it; `hand` is the collector's hand.
-fn show_next<C: AnyCrew>(
-    rt: &HostRuntime,
-    crew: &mut C,
-    ram: &mut CameraRam,
-    trays: &mut [Frame],
+/// A line at work: its crew, the memory that its board lies in, and the trays beside the board.
+#[derive(Drop)]
+struct Camera<'a, C> {
+    rt: &'a HostRuntime,
+    crew: C,
+    ram: &'a mut CameraRam,
+    trays: [Frame; TRAYS],
+    /// The collector's hand: the tray behind those of the lanes.
     hand: usize,
-) -> Result<(), Stop> {
-    match collect(crew, ram, trays)? {
-        Collected::Empty { grants } => println!(rt; "nothing left, {grants} grants")?,
-        Collected::Delivered {
-            lane,
-            stamp,
-            grants,
-        } => {
-            let frame = trays.get(hand).copied().unwrap_or(BLANK);
-            let exposure = frame.exposure;
-            let row = frame.row;
-            let level = frame.level;
-            println!(rt;
-                "collected from lane {lane}, stamp {stamp}, {grants} grants: exposure {exposure}, row {row}, level {level}"
-            )?;
+}
+
+impl<C: AnyCrew> Camera<'_, C> {
+    /// A few grants for a lane.
+    fn grant_some(&mut self, lane: usize, times: usize) -> Result<(), Stop> {
+        for _ in 0..times {
+            let _ = self.crew.grant_lane(self.ram, &mut self.trays, lane)?;
+        }
+        Ok(())
+    }
+
+    /// Grants a lane until its post ends, and says how it ended.
+    fn post_to_end(&mut self, lane: usize) -> Result<(), Stop> {
+        for _ in 0..MOST_GRANTS {
+            let answer = self.crew.grant_lane(self.ram, &mut self.trays, lane)?;
+            if answer != LaneAnswer::On {
+                let told = Told(answer);
+                println!(self.rt; "lane {lane}: {told}")?;
+                break;
+            }
+        }
+        Ok(())
+    }
+
+    /// Begins a collect, grants it to its end and settles it.
+    fn collect(&mut self) -> Result<Collected, Stop> {
+        let receipt = self.crew.begin_collect()?;
+        for _ in 0..MOST_GRANTS {
+            let answer = self.crew.grant_collector(self.ram, &mut self.trays);
+            if let Ok(CollectorAnswer::Ended(_)) = answer {
+                break;
+            }
+        }
+        Ok(self.crew.settle(receipt)?)
+    }
+
+    /// Collects a frame and prints it.
+    fn show_next(&mut self) -> Result<(), Stop> {
+        match self.collect()? {
+            Collected::Empty { grants } => println!(self.rt; "nothing left, {grants} grants")?,
+            Collected::Delivered {
+                lane,
+                stamp,
+                grants,
+            } => {
+                let frame = self.trays.get(self.hand).copied().unwrap_or_default();
+                println!(self.rt;
+                    "collected from lane {lane}, stamp {stamp}, {grants} grants: {frame}"
+                )?;
+            }
+        }
+        Ok(())
+    }
+}
+
+impl<'a> Camera<'a, Crew> {
+    /// New trays and a new crew, with no line laid yet.
+    fn new(rt: &'a HostRuntime, ram: &'a mut CameraRam) -> Self {
+        Camera {
+            rt,
+            crew: Crew::new(),
+            ram,
+            trays: [Frame::default(); TRAYS],
+            hand: 0,
         }
     }
-    Ok(())
-}
 
-/// Two tiles post at the same time; the crew is drained while a third post is under way.
-fn two_tiles(rt: &HostRuntime, ram: &mut CameraRam) -> Result<(), Stop> {
-    let mut trays = [BLANK; TRAYS];
-    let mut crew = Crew::new();
-    crew.lay(ram, &trays, 2, 3, 100)?;
-    println!(rt; "laid 2 lanes of 3 cells")?;
-    crew.begin_post(
-        &mut trays,
-        0,
-        Frame {
-            exposure: 1,
-            row: 10,
-            level: -5,
-        },
-    )?;
-    crew.begin_post(
-        &mut trays,
-        1,
-        Frame {
-            exposure: 1,
-            row: 11,
-            level: 7,
-        },
-    )?;
-    grant_some(&mut crew, ram, &mut trays, 1, 2)?;
-    post_to_end(rt, &mut crew, ram, &mut trays, 0)?;
-    post_to_end(rt, &mut crew, ram, &mut trays, 1)?;
-    show_next(rt, &mut crew, ram, &mut trays, 2)?;
-    crew.begin_post(
-        &mut trays,
-        1,
-        Frame {
-            exposure: 2,
-            row: 11,
-            level: 9,
-        },
-    )?;
-    grant_some(&mut crew, ram, &mut trays, 1, 3)?;
-    drain_dry(rt, crew, ram, &mut trays)
-}
-
-/// A few grants for a lane.
-fn grant_some<C: AnyCrew>(
-    crew: &mut C,
-    ram: &mut CameraRam,
-    trays: &mut [Frame],
-    lane: usize,
-    times: usize,
-) -> Result<(), Refusal> {
-    for _ in 0..times {
-        let _ = crew.grant_lane(ram, trays, lane)?;
+    /// Lays a line over the memory.
+    fn lay(&mut self, lanes: usize, cells: usize, start: u64) -> Result<(), Stop> {
+        self.hand = lanes;
+        Ok(self.crew.lay(self.ram, &self.trays, lanes, cells, start)?)
     }
-    Ok(())
+
+    /// Begins a post of a row of an exposure.
+    fn begin_post(&mut self, lane: usize, exposure: u16, row: u16, level: i32) -> Result<(), Stop> {
+        let frame = Frame {
+            exposure,
+            row,
+            level,
+        };
+        Ok(self.crew.begin_post(&mut self.trays, lane, frame)?)
+    }
+
+    /// No post can be begun any more.
+    fn drain(self) -> Camera<'a, DrainingCrew> {
+        Camera {
+            rt: self.rt,
+            crew: self.crew.drain(),
+            ram: self.ram,
+            trays: self.trays,
+            hand: self.hand,
+        }
+    }
 }
 
-/// No post can be begun any more; the one under way goes on, and what was posted is collected.
-fn drain_dry(
-    rt: &HostRuntime,
-    crew: Crew,
-    ram: &mut CameraRam,
-    trays: &mut [Frame],
-) -> Result<(), Stop> {
-    let mut draining = crew.drain();
-    let waiting = draining.fill(0)?;
+/// Two tiles post at the same time; the crew is drained while a third post is under way, which goes on, and what was posted is
+/// collected.
+fn two_tiles(rt: &HostRuntime, ram: &mut CameraRam) -> Result<(), Stop> {
+    let mut camera = Camera::new(rt, ram);
+    camera.lay(2, 3, 100)?;
+    println!(rt; "laid 2 lanes of 3 cells")?;
+    camera.begin_post(0, 1, 10, -5)?;
+    camera.begin_post(1, 1, 11, 7)?;
+    camera.grant_some(1, 2)?;
+    camera.post_to_end(0)?;
+    camera.post_to_end(1)?;
+    camera.show_next()?;
+    camera.begin_post(1, 2, 11, 9)?;
+    camera.grant_some(1, 3)?;
+
+    let mut camera = camera.drain();
+    let waiting = camera.crew.fill(0)?;
     println!(rt; "draining, {waiting} frame waits in lane 0")?;
-    post_to_end(rt, &mut draining, ram, trays, 1)?;
-    show_next(rt, &mut draining, ram, trays, 2)?;
-    show_next(rt, &mut draining, ram, trays, 2)?;
-    show_next(rt, &mut draining, ram, trays, 2)
+    camera.post_to_end(1)?;
+    camera.show_next()?;
+    camera.show_next()?;
+    camera.show_next()
 }
 
 /// A new line with a new crew over the same memory.
 fn one_tile(rt: &HostRuntime, ram: &mut CameraRam) -> Result<(), Stop> {
-    let mut trays = [BLANK; TRAYS];
-    let mut crew = Crew::new();
-    crew.lay(ram, &trays, 1, 2, 0)?;
+    let mut camera = Camera::new(rt, ram);
+    camera.lay(1, 2, 0)?;
     println!(rt; "laid 1 lane of 2 cells")?;
-    crew.begin_post(
-        &mut trays,
-        0,
-        Frame {
-            exposure: 3,
-            row: 0,
-            level: 40,
-        },
-    )?;
-    post_to_end(rt, &mut crew, ram, &mut trays, 0)?;
-    crew.begin_post(
-        &mut trays,
-        0,
-        Frame {
-            exposure: 3,
-            row: 1,
-            level: 41,
-        },
-    )?;
-    post_to_end(rt, &mut crew, ram, &mut trays, 0)?;
-    show_next(rt, &mut crew, ram, &mut trays, 1)
+    camera.begin_post(0, 3, 0, 40)?;
+    camera.post_to_end(0)?;
+    camera.begin_post(0, 3, 1, 41)?;
+    camera.post_to_end(0)?;
+    camera.show_next()
 }
 
-fn main(rt: HostRuntime) -> Result<(), Stop> {
+fn main(rt: HostRuntime) -> anyhow::Result<()> {
     let mut ram = CameraRam::new(12);
     two_tiles(&rt, &mut ram)?;
     one_tile(&rt, &mut ram)?;
