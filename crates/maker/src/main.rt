@@ -165,8 +165,9 @@ impl<'a> Camera<'a, Crew> {
 
     /// Lays a line over the memory.
     fn lay(&mut self, lanes: usize, cells: usize, start: u64) -> Result<(), Stop> {
+        self.crew.lay(self.ram, &self.trays, lanes, cells, start)?;
         self.hand = lanes;
-        Ok(self.crew.lay(self.ram, &self.trays, lanes, cells, start)?)
+        Ok(())
     }
 
     /// Begins a post of a row of an exposure.

@@ -1,86 +1,89 @@
 //! Cycles: every lane posts a ticket, then as many collects take them out.
 use crate::stop::Stop;
 use crate::tally::{Tally, Ticket};
-use boards::Board;
+use boards::{Board, ByteBoard};
 use line::answer::{CollectorAnswer, LaneAnswer};
 use line::calls::AnyCrew;
 use line::collector::Collected;
 use line::crew::Crew;
-use line::receipt::Unspent;
-use std::mem::ManuallyDrop;
 
 /// More grants than a post, or a collect over sixteen lanes, can have.
 const MOST_GRANTS: usize = 42;
 
-/// So many cycles over a line that was laid with `lanes` lanes.
-pub fn run<B: Board>(
-    crew: &mut Crew,
-    board: &mut B,
-    trays: &mut [Ticket],
-    lanes: u8,
-    cycles: u32,
-) -> Result<Tally, Stop> {
-    let mut tally = Tally::NOTHING;
-    for cycle in 0..cycles {
-        for lane in 0..lanes {
-            let ticket = Ticket::of(cycle, lane);
-            tally.add(post(crew, board, trays, usize::from(lane), ticket)?);
-        }
-        for _ in 0..lanes {
-            collect(crew, board, trays, usize::from(lanes), &mut tally)?;
-        }
-    }
-    Ok(tally)
+/// A line at work: its crew, the board and the trays, and what was done so far.
+#[derive(Drop)]
+pub struct Track<'a> {
+    pub lanes: u8,
+    pub crew: Crew,
+    pub board: ByteBoard<'a>,
+    pub trays: Vec<Ticket>,
+    pub tally: Tally,
 }
 
-/// Posts a ticket, and says with how many grants.
-fn post<B: Board>(
-    crew: &mut Crew,
-    board: &mut B,
-    trays: &mut [Ticket],
-    lane: usize,
-    ticket: Ticket,
-) -> Result<u64, Stop> {
-    crew.begin_post(trays, lane, ticket)?;
-    for _ in 0..MOST_GRANTS {
-        match crew.grant_lane(board, trays, lane)? {
-            LaneAnswer::On => {}
-            LaneAnswer::Posted { grants, .. } => return Ok(grants),
-            LaneAnswer::Full { .. } | LaneAnswer::UsedUp { .. } => return Err(Stop::NotPosted),
-        }
+impl Track<'_> {
+    /// Lays the line with so many cells in each lane.
+    pub fn lay(&mut self, cells: usize) -> Result<(), Stop> {
+        let lanes = usize::from(self.lanes);
+        let trays = self.trays.as_slice();
+        Ok(self.crew.lay(&mut self.board, trays, lanes, cells, 0)?)
     }
-    Err(Stop::NotPosted)
-}
 
-/// Collects a ticket and tallies it; `hand` is the collector's hand.
-fn collect<B: Board>(
-    crew: &mut Crew,
-    board: &mut B,
-    trays: &mut [Ticket],
-    hand: usize,
-    tally: &mut Tally,
-) -> Result<(), Stop> {
-    let receipt = crew.begin_collect()?;
-    for _ in 0..MOST_GRANTS {
-        if let Ok(CollectorAnswer::Ended(_)) = crew.grant_collector(board, trays) {
-            break;
-        }
-    }
-    match crew.settle(receipt) {
-        Ok(Collected::Delivered { stamp, grants, .. }) => {
-            tally.add(grants);
-            tally.fold(stamp);
-            if let Some(ticket) = trays.get(hand) {
-                tally.fold_ticket(ticket);
+    /// So many cycles over the line.
+    pub fn run(&mut self, cycles: u32) -> Result<(), Stop> {
+        let lanes = self.lanes;
+        for cycle in 0..cycles {
+            for lane in 0..lanes {
+                self.post(usize::from(lane), Ticket::of(cycle, lane))?;
             }
-            Ok(())
+            for _ in 0..lanes {
+                self.collect()?;
+            }
         }
-        Ok(Collected::Empty { .. }) => Err(Stop::NotDelivered),
-        Err(
-            Unspent {
-                refusal: _,
-                receipt,
-            },
-        ) => Err(Stop::Unsettled(unsafe { ManuallyDrop::new_unchecked(receipt) })),
+        Ok(())
+    }
+
+    /// Posts a ticket.
+    fn post(&mut self, lane: usize, ticket: Ticket) -> Result<(), Stop> {
+        let trays = self.trays.as_mut_slice();
+        self.crew.begin_post(trays, lane, ticket)?;
+        for _ in 0..MOST_GRANTS {
+            match self.crew.grant_lane(&mut self.board, trays, lane)? {
+                LaneAnswer::On => {}
+                LaneAnswer::Posted { grants, .. } => {
+                    self.tally.add(grants);
+                    return Ok(());
+                }
+                LaneAnswer::Full { .. } | LaneAnswer::UsedUp { .. } => break,
+            }
+        }
+        Err(Stop::NotPosted)
+    }
+
+    /// Collects a ticket out of the collector's hand, the tray behind those of the lanes.
+    fn collect(&mut self) -> Result<(), Stop> {
+        let receipt = self.crew.begin_collect()?;
+        let trays = self.trays.as_mut_slice();
+        for _ in 0..MOST_GRANTS {
+            let answer = self.crew.grant_collector(&mut self.board, trays);
+            if let Ok(CollectorAnswer::Ended(_)) = answer {
+                break;
+            }
+        }
+        let Collected::Delivered { stamp, grants, .. } = self.crew.settle(receipt)? else {
+            return Err(Stop::NotDelivered);
+        };
+        self.tally.add(grants);
+        self.tally.fold(stamp);
+        if let Some(ticket) = self.trays.get(usize::from(self.lanes)) {
+            self.tally.fold_ticket(*ticket);
+        }
+        Ok(())
+    }
+
+    /// What the cycles left on the board goes into the check.
+    pub fn fold_board(&mut self) {
+        for k in 0..self.board.len() {
+            self.tally.fold(self.board.load(k));
+        }
     }
 }

@@ -8,14 +8,16 @@ mod cycle;
 mod stop;
 mod tally;
 
-use boards::{Board, ByteBoard};
-use cycle::run;
+use boards::ByteBoard;
+use cycle::Track;
+use line::answer::Totals;
 use line::calls::AnyCrew;
 use line::crew::Crew;
 use std::env;
+use std::str::FromStr;
 use std::time::{Duration, Instant};
 use stop::Stop;
-use tally::Ticket;
+use tally::{Tally, Ticket};
 
 /// How many cells each lane has.
 const CELLS: usize = 8;
@@ -28,22 +30,21 @@ fn pace(rt: &HostRuntime, lanes: u8, cycles: u32) -> Result<Duration, Stop> {
     let heap = rt.alloc();
     let n = usize::from(lanes);
     let mut bytes = vec![in heap; 0u8; 8 * (1 + 3 * n + n * CELLS)]?;
-    let mut trays = vec![in heap; Ticket::BLANK; n + 1 + n * CELLS]?;
-    let mut board = ByteBoard::over(bytes.as_mut_slice());
-    let mut crew = Crew::new();
-    crew.lay(&mut board, trays.as_slice(), n, CELLS, 0)?;
+    let mut track = Track {
+        lanes,
+        crew: Crew::new(),
+        board: ByteBoard::over(bytes.as_mut_slice()),
+        trays: vec![in heap; Ticket::default(); n + 1 + n * CELLS]?,
+        tally: Tally::default(),
+    };
+    track.lay(CELLS)?;
     let start = Instant::now(rt)?;
-    let mut tally = run(&mut crew, &mut board, trays.as_mut_slice(), lanes, cycles)?;
+    track.run(cycles)?;
     let time = start.elapsed(rt)?;
-    for k in 0..board.len() {
-        tally.fold(board.load(k));
-    }
-    let waiting = crew.fill(0)?;
-    let totals = crew.drain().report()?;
-    let grants = tally.grants;
-    let posted = totals.posted;
-    let delivered = totals.delivered;
-    let check = tally.check;
+    track.fold_board();
+    let waiting = track.crew.fill(0)?;
+    let Tally { grants, check } = track.tally;
+    let Totals { posted, delivered } = track.crew.drain().report()?;
     println!(rt;
         "lanes {lanes}, cycles {cycles}: grants {grants}, posted {posted}, delivered {delivered}, waiting {waiting}, check {check}"
     )?;
@@ -60,35 +61,27 @@ enum Asked {
 impl Asked {
     fn read(rt: &HostRuntime) -> Result<Asked, Stop> {
         let mut args = env::args(rt)?.skip(1);
-        let Some(mode) = args.next() else {
-            return Err(Stop::BadArguments);
-        };
-        match mode.as_str() {
+        match args.next().ok_or(Stop::BadArguments)?.as_str() {
             "count" => Ok(Asked::Count),
-            "time" => {
-                let lanes = number(args.next())?;
-                let cycles = number(args.next())?;
-                match u8::try_from(lanes) {
-                    Ok(lanes) => Ok(Asked::Time { lanes, cycles }),
-                    Err(_) => Err(Stop::BadArguments),
-                }
-            }
+            "time" => Ok(Asked::Time {
+                lanes: number(args.next())?,
+                cycles: number(args.next())?,
+            }),
             _ => Err(Stop::BadArguments),
         }
     }
 }
 
-fn number(word: Option<String>) -> Result<u32, Stop> {
-    let Some(word) = word else {
-        return Err(Stop::BadArguments);
-    };
-    match word.as_str().parse::<u32>() {
-        Ok(number) => Ok(number),
-        Err(_) => Err(Stop::BadArguments),
-    }
+/// The number that an argument spells.
+fn number<T: FromStr>(word: Option<String>) -> Result<T, Stop>
+where
+    T::Err: Drop,
+{
+    let word = word.ok_or(Stop::BadArguments)?;
+    word.as_str().parse::<T>().map_err(|_| Stop::BadArguments)
 }
 
-fn main(rt: HostRuntime) -> Result<(), Stop> {
+fn main(rt: HostRuntime) -> anyhow::Result<()> {
     match Asked::read(&rt)? {
         Asked::Count => {
             for lanes in [1, 4, 16] {

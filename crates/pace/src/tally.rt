@@ -4,7 +4,7 @@
 const FRAME_LENGTH: u32 = 4096;
 
 /// A frame that lies elsewhere: which one, where it starts and how long it is.
-#[derive(Clone, Copy)]
+#[derive(Clone, Copy, Default)]
 pub struct Ticket {
     frame: u32,
     place: u32,
@@ -12,12 +12,6 @@ pub struct Ticket {
 }
 
 impl Ticket {
-    pub const BLANK: Ticket = Ticket {
-        frame: 0,
-        place: 0,
-        length: 0,
-    };
-
     /// The ticket that a lane posts in a cycle.
     pub fn of(cycle: u32, lane: u8) -> Ticket {
         Ticket {
@@ -29,18 +23,13 @@ impl Ticket {
 }
 
 /// What was done: the grants, and a check over all that was delivered.
-#[derive(Clone, Copy)]
+#[derive(Clone, Copy, Default)]
 pub struct Tally {
     pub grants: u64,
     pub check: u64,
 }
 
 impl Tally {
-    pub const NOTHING: Tally = Tally {
-        grants: 0,
-        check: 0,
-    };
-
     /// So many grants more.
     pub fn add(&mut self, grants: u64) {
         self.grants = self.grants.wrapping_add(grants);
@@ -52,9 +41,14 @@ impl Tally {
     }
 
     /// A delivered ticket goes into the check.
-    pub fn fold_ticket(&mut self, ticket: &Ticket) {
-        self.fold(u64::from(ticket.frame));
-        self.fold(u64::from(ticket.place));
-        self.fold(u64::from(ticket.length));
+    pub fn fold_ticket(&mut self, ticket: Ticket) {
+        let Ticket {
+            frame,
+            place,
+            length,
+        } = ticket;
+        for number in [frame, place, length] {
+            self.fold(u64::from(number));
+        }
     }
 }
