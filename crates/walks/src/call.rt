@@ -1,8 +1,9 @@
 //! Lists of calls as they stand on standard input, one call to a line.
-use std::str::SplitWhitespace;
+use crate::fault::Unreadable;
+use std::str::{FromStr, SplitWhitespace};
 
 /// How many words a board has, and how many trays lie beside it.
-#[derive(Clone, Copy)]
+#[derive(Clone, Copy, Default)]
 pub struct Sizes {
     pub words: usize,
     pub trays: usize,
@@ -57,73 +58,84 @@ pub enum Line {
     End,
 }
 
-impl Line {
-    /// Reads a line; there is no answer if it is none of the known ones.
-    pub fn read(text: &str) -> Option<Line> {
-        let mut words = text.split_whitespace();
-        let name = words.next()?;
-        match name {
-            "line" => Some(Line::Begin(read_sizes(&mut words)?)),
-            "end" => Some(Line::End),
-            "short" => {
-                let spare = Some(read_sizes(&mut words)?);
-                let name = words.next()?;
-                let call = call_named(name, &mut words)?;
-                Some(Line::Step(Step { call, spare }))
-            }
-            _ => Some(Line::Step(Step {
-                call: call_named(name, &mut words)?,
-                spare: None,
-            })),
-        }
+impl FromStr for Line {
+    type Err = Unreadable;
+
+    fn from_str(text: &str) -> Result<Line, Unreadable> {
+        Line::read(text.split_whitespace()).ok_or(Unreadable)
     }
 }
 
-/// The call of this name, with its numbers.
-fn call_named(name: &str, words: &mut SplitWhitespace<'_>) -> Option<Call> {
-    let call = match name {
-        "lay" => Call::Lay {
-            lanes: place(words)?,
-            cells: place(words)?,
-            start: number(words)?,
-        },
-        "post" => Call::Post {
-            lane: place(words)?,
-            payload: number(words)?,
-        },
-        "grant" => Call::Grant {
-            lane: place(words)?,
-            times: number(words)?,
-        },
-        "collect" => Call::Collect,
-        "gc" => Call::GrantCollector {
-            times: number(words)?,
-        },
-        "settle" => Call::Settle,
-        "drain" => Call::Drain,
-        "fill" => Call::Fill {
-            lane: place(words)?,
-        },
-        "report" => Call::Report,
-        "see" => Call::See {
-            tray: place(words)?,
-        },
-        _ => return None,
-    };
-    Some(call)
+impl Line {
+    /// The line that these words spell, if it is one of the known ones.
+    fn read(mut words: SplitWhitespace<'_>) -> Option<Line> {
+        let line = match words.next()? {
+            "line" => Line::Begin(Sizes::read(&mut words)?),
+            "end" => Line::End,
+            "short" => {
+                let spare = Some(Sizes::read(&mut words)?);
+                let name = words.next()?;
+                let call = Call::read(name, &mut words)?;
+                Line::Step(Step { call, spare })
+            }
+            name => Line::Step(Step {
+                call: Call::read(name, &mut words)?,
+                spare: None,
+            }),
+        };
+        Some(line)
+    }
 }
 
-fn read_sizes(words: &mut SplitWhitespace<'_>) -> Option<Sizes> {
-    Some(Sizes {
-        words: place(words)?,
-        trays: place(words)?,
-    })
+impl Call {
+    /// The call of this name, with its numbers.
+    fn read(name: &str, words: &mut SplitWhitespace<'_>) -> Option<Call> {
+        let call = match name {
+            "lay" => Call::Lay {
+                lanes: number(words)?,
+                cells: number(words)?,
+                start: number(words)?,
+            },
+            "post" => Call::Post {
+                lane: number(words)?,
+                payload: number(words)?,
+            },
+            "grant" => Call::Grant {
+                lane: number(words)?,
+                times: number(words)?,
+            },
+            "collect" => Call::Collect,
+            "gc" => Call::GrantCollector {
+                times: number(words)?,
+            },
+            "settle" => Call::Settle,
+            "drain" => Call::Drain,
+            "fill" => Call::Fill {
+                lane: number(words)?,
+            },
+            "report" => Call::Report,
+            "see" => Call::See {
+                tray: number(words)?,
+            },
+            _ => return None,
+        };
+        Some(call)
+    }
 }
 
-fn number(words: &mut SplitWhitespace<'_>) -> Option<u64> {
-    words.next()?.parse::<u64>().ok()
+impl Sizes {
+    fn read(words: &mut SplitWhitespace<'_>) -> Option<Sizes> {
+        Some(Sizes {
+            words: number(words)?,
+            trays: number(words)?,
+        })
+    }
 }
 
-fn place(words: &mut SplitWhitespace<'_>) -> Option<usize> {
-    words.next()?.parse::<usize>().ok()
+/// The number that the next word spells.
+fn number<T: FromStr>(words: &mut SplitWhitespace<'_>) -> Option<T>
+where
+    T::Err: Drop,
+{
+    words.next()?.parse::<T>().ok()
 }

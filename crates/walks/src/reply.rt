@@ -1,5 +1,5 @@
 //! What a call answered, as a line of the output.
-use line::answer::{CollectorAnswer, LaneAnswer, Refusal};
+use line::answer::{CollectorAnswer, LaneAnswer, Refusal, Totals};
 use line::collector::Collected;
 use std::fmt;
 
@@ -14,7 +14,7 @@ pub enum Answer {
     Collector(CollectorAnswer),
     Settled(Collected),
     /// A report.
-    Totals { posted: u64, delivered: u64 },
+    Totals(Totals),
     Refused(Refusal),
     /// The crew has no such call, or there is no such tray.
     Nothing,
@@ -33,34 +33,26 @@ pub enum Reply {
 impl fmt::Display for Answer {
     fn fmt<W: fmt::Write>(&self, f: &mut fmt::Formatter<W>) -> fmt::Result {
         match *self {
-            Answer::Accepted => write!(f, "0"),
+            Answer::Accepted
+            | Answer::Lane(LaneAnswer::On)
+            | Answer::Collector(CollectorAnswer::On) => write!(f, "0"),
             Answer::Number(value) => write!(f, "0 {value}"),
-            Answer::Lane(LaneAnswer::On) => write!(f, "0"),
             Answer::Lane(LaneAnswer::Posted { stamp, grants }) => write!(f, "0 {stamp} {grants}"),
             Answer::Lane(LaneAnswer::Full { grants }) => write!(f, "8 {grants}"),
             Answer::Lane(LaneAnswer::UsedUp { grants }) => write!(f, "9 {grants}"),
-            Answer::Collector(CollectorAnswer::On) => write!(f, "0"),
-            Answer::Collector(CollectorAnswer::Ended(how)) => write_collected(f, how),
-            Answer::Settled(how) => write_collected(f, how),
-            Answer::Totals { posted, delivered } => write!(f, "0 {posted} {delivered}"),
-            Answer::Refused(refusal) => {
-                let number = refusal.number();
-                write!(f, "{number}")
-            }
+            Answer::Collector(CollectorAnswer::Ended(how)) | Answer::Settled(how) => match how {
+                Collected::Empty { grants } => write!(f, "0 {grants}"),
+                Collected::Delivered {
+                    lane,
+                    stamp,
+                    grants,
+                } => write!(f, "0 {lane} {stamp} {grants}"),
+            },
+            Answer::Totals(Totals { posted, delivered }) => write!(f, "0 {posted} {delivered}"),
+            Answer::Refused(refusal) => write!(f, "{}", refusal.number()),
             Answer::Nothing => write!(f, "nothing"),
             Answer::Spilled => write!(f, "spilled"),
         }
-    }
-}
-
-fn write_collected<W: fmt::Write>(f: &mut fmt::Formatter<W>, how: Collected) -> fmt::Result {
-    match how {
-        Collected::Empty { grants } => write!(f, "0 {grants}"),
-        Collected::Delivered {
-            lane,
-            stamp,
-            grants,
-        } => write!(f, "0 {lane} {stamp} {grants}"),
     }
 }
 

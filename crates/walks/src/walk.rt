@@ -1,15 +1,12 @@
 //! A whole list over one board: the replies to its calls, and digests of what it leaves.
 use crate::call::{Call, Sizes, Step};
 use crate::fault::Fault;
-use crate::perform::{Performs, Stuck, finish, perform_step};
+use crate::memory::Memory;
+use crate::owner::{Owner, Performs, Stuck};
 use crate::reply::{Answer, Reply};
 use boards::Board;
 use line::crew::Crew;
-use line::receipt::Receipt;
 use std::alloc::{AllocError, Global};
-
-/// What the words of a board hold before the first call: multiples of this number.
-const STEP_BETWEEN_WORDS: u64 = 0x9e37_79b9_7f4a_7c15;
 
 /// What tray 0 holds before the first call; the next hold one more each.
 const FIRST_TRAY: u64 = 7_000_000;
@@ -17,112 +14,84 @@ const FIRST_TRAY: u64 = 7_000_000;
 /// What a list gave: the reply to each call, and digests of the words and trays that it left.
 #[derive(PartialEq, Drop)]
 pub struct Trace {
-    pub replies: Vec<Reply>,
-    pub words: u64,
-    pub trays: u64,
+    replies: Vec<Reply>,
+    words: u64,
+    trays: u64,
+}
+
+impl Trace {
+    /// Appends the replies, each on a line of its own, and behind them the verdict with the digests.
+    pub fn write(&self, text: &mut String, verdict: &str) -> Result<(), AllocError> {
+        for reply in &self.replies {
+            writeln!(text, "{reply}")?;
+        }
+        let words = self.words;
+        let trays = self.trays;
+        writeln!(text, "{verdict} {words} {trays}")
+    }
 }
 
 /// Performs a list over a board with a new crew.
-pub fn walk<B: Board>(
+pub fn walk<B: Board + Drop>(
     heap: Global,
-    board: &mut B,
+    board: B,
     sizes: Sizes,
     steps: &[Step],
 ) -> Result<Trace, Fault> {
-    let mut trays = first_trays(heap, sizes.trays)?;
+    let mut trays = Vec::with_capacity(heap, sizes.trays)?;
+    trays.extend((0..sizes.trays).map(|tray| FIRST_TRAY.wrapping_add(tray as u64)))?;
     let mut replies = Vec::with_capacity(heap, steps.len())?;
-    store_first_words(board, sizes.words);
-    perform_list(board, trays.as_mut_slice(), steps, &mut replies)?;
+    let mut memory = Memory {
+        board,
+        trays: trays.as_mut_slice(),
+    };
+    memory.store_first_words(sizes.words);
+    perform_list(&mut memory, steps, &mut replies)?;
     Ok(Trace {
+        words: memory.words_digest(sizes.words),
+        trays: memory.trays_digest(),
         replies,
-        words: board_digest(board, sizes.words),
-        trays: digest(trays.as_slice()),
     })
-}
-
-fn first_trays(heap: Global, count: usize) -> Result<Vec<u64>, AllocError> {
-    let mut trays = Vec::with_capacity(heap, count)?;
-    for t in 0..count {
-        trays.push(FIRST_TRAY.wrapping_add(t as u64))?;
-    }
-    Ok(trays)
-}
-
-fn store_first_words<B: Board>(board: &mut B, count: usize) {
-    let mut word = 0u64;
-    for k in 0..count {
-        word = word.wrapping_add(STEP_BETWEEN_WORDS);
-        board.store(k, word);
-    }
 }
 
 /// The calls up to the first drain go to an open crew, those after it to the draining one.
 fn perform_list<B: Board>(
-    board: &mut B,
-    trays: &mut [u64],
+    memory: &mut Memory<'_, B>,
     steps: &[Step],
     replies: &mut Vec<Reply>,
 ) -> Result<(), Stuck> {
-    let mut crew = Crew::new();
-    let count = steps_before_drain(steps).min(steps.len());
-    let held = perform_steps(&mut crew, board, trays, None, &steps[0..count], replies)?;
-    if count >= steps.len() {
-        return finish(&mut crew, board, trays, held);
-    }
-    let mut crew = crew.drain();
+    let open = Owner {
+        crew: Crew::new(),
+        held: None,
+    };
+    let drain = steps
+        .iter()
+        .position(|step| matches!(step.call, Call::Drain))
+        .unwrap_or(steps.len());
+    let (before, rest) = steps.split_at(drain);
+    let Owner { crew, held } = perform_steps(open, memory, before, replies)?;
+    let [_, after @ ..] = rest else {
+        return Owner { crew, held }.finish(memory);
+    };
     let _ = replies.push(Reply::Once(Answer::Accepted));
-    let held = perform_steps(&mut crew, board, trays, held, &steps[count + 1..], replies)?;
-    finish(&mut crew, board, trays, held)
-}
-
-/// How many calls stand before the first drain.
-fn steps_before_drain(steps: &[Step]) -> usize {
-    for (at, step) in steps.iter().enumerate() {
-        if let Call::Drain = step.call {
-            return at;
-        }
-    }
-    steps.len()
+    let draining = Owner {
+        crew: crew.drain(),
+        held,
+    };
+    perform_steps(draining, memory, after, replies)?.finish(memory)
 }
 
 /// Performs the steps in their order; `replies` has room for all of them.
 fn perform_steps<C: Performs, B: Board>(
-    crew: &mut C,
-    board: &mut B,
-    trays: &mut [u64],
-    held: Option<Receipt>,
+    mut owner: Owner<C>,
+    memory: &mut Memory<'_, B>,
     steps: &[Step],
     replies: &mut Vec<Reply>,
-) -> Result<Option<Receipt>, Stuck> {
-    let mut held = held;
+) -> Result<Owner<C>, Stuck> {
     for step in steps {
-        let (reply, after) = perform_step(crew, board, trays, held, *step)?;
-        held = after;
+        let (after, reply) = owner.perform(memory, *step)?;
+        owner = after;
         let _ = replies.push(reply);
     }
-    Ok(held)
-}
-
-fn board_digest<B: Board>(board: &B, count: usize) -> u64 {
-    let mut all = DIGEST_START;
-    for k in 0..count {
-        all = mixed(all, board.load(k));
-    }
-    all
-}
-
-fn digest(words: &[u64]) -> u64 {
-    let mut all = DIGEST_START;
-    for word in words {
-        all = mixed(all, *word);
-    }
-    all
-}
-
-const DIGEST_START: u64 = 0xcbf2_9ce4_8422_2325;
-
-/// One more word goes into the digest.
-fn mixed(all: u64, word: u64) -> u64 {
-    let product = (all ^ word).wrapping_mul(0x100_0000_01b3);
-    product ^ (product >> 29)
+    Ok(owner)
 }
