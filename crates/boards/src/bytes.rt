@@ -64,6 +64,7 @@ impl Board for ByteBoard<'_> {
         ensures rest { rest_of self.new.bytes.now ≡ rest_of self.old.bytes.now }
         ensures stays { home_of self.new.bytes.ghost_name self.new.bytes.now ≡ home_of self.old.bytes.ghost_name self.old.bytes.now }
     {
+        // A proof does not know what a slice holds after `as_chunks_mut`, so the place is tested first.
         if k < self.len() {
             let at = WORD_BYTES * k;
             self.bytes[at..at + WORD_BYTES].copy_from_slice(&v.to_le_bytes());
