@@ -23,6 +23,19 @@ pub struct Stuck {
     pub other: Option<Receipt>,
 }
 
+impl From<Unspent> for Stuck {
+    fn from(unspent: Unspent) -> Stuck {
+        let Unspent {
+            refusal: _,
+            receipt,
+        } = unspent;
+        Stuck {
+            receipt,
+            other: None,
+        }
+    }
+}
+
 /// A crew that performs the calls of a list.
 pub trait Performs: AnyCrew + Drop {
     /// Makes a call that not every crew has; if this one does not have it, the answer is nothing.
@@ -55,16 +68,31 @@ impl Performs for DrainingCrew {
 
 /// Who makes the calls: the crew, and the receipt that is held while a collect is begun.
 pub struct Owner<C> {
-    pub crew: C,
-    pub held: Option<Receipt>,
+    crew: C,
+    held: Option<Receipt>,
 }
 
 /// What a call gives: the owner after it, and the reply.
-pub type Performed<C> = Result<(Owner<C>, Reply), Stuck>;
+type Performed<C> = Result<(Owner<C>, Reply), Stuck>;
 
 impl<C: Performs> Owner<C> {
+    /// Performs steps in their order; `replies` has room for all of them.
+    pub fn perform_all<B: Board>(
+        mut self,
+        memory: &mut Memory<'_, B>,
+        steps: &[Step],
+        replies: &mut Vec<Reply>,
+    ) -> Result<Owner<C>, Stuck> {
+        for step in steps {
+            let (owner, reply) = self.perform(memory, *step)?;
+            self = owner;
+            let _ = replies.push(reply);
+        }
+        Ok(self)
+    }
+
     /// Performs a step with the list's memory, or with a spare one of the sizes that the step names.
-    pub fn perform<B: Board>(self, memory: &mut Memory<'_, B>, step: Step) -> Performed<C> {
+    fn perform<B: Board>(self, memory: &mut Memory<'_, B>, step: Step) -> Performed<C> {
         let Some(sizes) = step.spare else {
             return self.call(memory, step.call);
         };
@@ -82,23 +110,25 @@ impl<C: Performs> Owner<C> {
         }
     }
 
-    fn call<B: Board>(self, memory: &mut Memory<'_, B>, call: Call) -> Performed<C> {
-        let Owner { mut crew, held } = self;
+    fn call<B: Board>(mut self, memory: &mut Memory<'_, B>, call: Call) -> Performed<C> {
         let reply = match call {
-            Call::Collect => return begin_collect(crew, held),
-            Call::Settle => return settle(crew, held),
+            Call::Collect => return self.begin_collect(),
+            Call::Settle => return self.settle(),
             Call::Grant { lane, times } => grant(times, Answer::Lane(LaneAnswer::On), || {
-                crew.grant_lane(&mut memory.board, memory.trays, lane)
+                self.crew
+                    .grant_lane(&mut memory.board, memory.trays, lane)
                     .map_or_else(Answer::Refused, Answer::Lane)
             }),
             Call::GrantCollector { times } => {
                 grant(times, Answer::Collector(CollectorAnswer::On), || {
-                    crew.grant_collector(&mut memory.board, memory.trays)
+                    self.crew
+                        .grant_collector(&mut memory.board, memory.trays)
                         .map_or_else(Answer::Refused, Answer::Collector)
                 })
             }
             Call::Fill { lane } => Reply::Once(
-                crew.fill(lane)
+                self.crew
+                    .fill(lane)
                     .map_or_else(Answer::Refused, |count| Answer::Number(count as u64)),
             ),
             Call::See { tray } => Reply::Once(
@@ -107,11 +137,38 @@ impl<C: Performs> Owner<C> {
                     .get(tray)
                     .map_or(Answer::Nothing, |payload| Answer::Number(*payload)),
             ),
-            Call::Lay { .. } | Call::Post { .. } | Call::Drain | Call::Report => {
-                Reply::Once(crew.own_call(&mut memory.board, memory.trays, call))
-            }
+            Call::Lay { .. } | Call::Post { .. } | Call::Drain | Call::Report => Reply::Once(
+                self.crew.own_call(&mut memory.board, memory.trays, call),
+            ),
         };
-        Ok((Owner { crew, held }, reply))
+        Ok((self, reply))
+    }
+
+    fn begin_collect(self) -> Performed<C> {
+        let Owner { mut crew, held } = self;
+        let (held, answer) = match (crew.begin_collect(), held) {
+            (Ok(receipt), None) => (Some(receipt), Answer::Accepted),
+            (Ok(receipt), Some(first)) => {
+                return Err(Stuck {
+                    receipt: first,
+                    other: Some(receipt),
+                });
+            }
+            (Err(refusal), held) => (held, Answer::Refused(refusal)),
+        };
+        Ok((Owner { crew, held }, Reply::Once(answer)))
+    }
+
+    fn settle(self) -> Performed<C> {
+        let Owner { mut crew, held } = self;
+        let Some(receipt) = held else {
+            return settle_unheld(crew);
+        };
+        let (held, answer) = match crew.settle(receipt) {
+            Ok(how) => (None, Answer::Settled(how)),
+            Err(Unspent { refusal, receipt }) => (Some(receipt), Answer::Refused(refusal)),
+        };
+        Ok((Owner { crew, held }, Reply::Once(answer)))
     }
 
     /// Grants a collect that is open to its end and settles it.
@@ -123,17 +180,26 @@ impl<C: Performs> Owner<C> {
         for _ in 0..MOST_GRANTS {
             let _ = crew.grant_collector(&mut memory.board, memory.trays);
         }
-        match crew.settle(receipt) {
-            Ok(_) => Ok(()),
-            Err(
-                Unspent {
-                    refusal: _,
-                    receipt,
-                },
-            ) => Err(Stuck {
-                receipt,
-                other: None,
-            }),
+        let _ = crew.settle(receipt)?;
+        Ok(())
+    }
+}
+
+impl Owner<Crew> {
+    /// The owner of a new crew.
+    pub fn new() -> Owner<Crew> {
+        Owner {
+            crew: Crew::new(),
+            held: None,
+        }
+    }
+
+    /// The owner of the draining crew; a receipt that is held stays.
+    pub fn drain(self) -> Owner<DrainingCrew> {
+        let Owner { crew, held } = self;
+        Owner {
+            crew: crew.drain(),
+            held,
         }
     }
 }
@@ -152,31 +218,6 @@ fn grant<F: FnMut() -> Answer>(times: u64, on: Answer, mut grant_once: F) -> Rep
         made: times,
         answer: on,
     }
-}
-
-fn begin_collect<C: Performs>(mut crew: C, held: Option<Receipt>) -> Performed<C> {
-    let (held, answer) = match (crew.begin_collect(), held) {
-        (Ok(receipt), None) => (Some(receipt), Answer::Accepted),
-        (Ok(receipt), Some(first)) => {
-            return Err(Stuck {
-                receipt: first,
-                other: Some(receipt),
-            });
-        }
-        (Err(refusal), held) => (held, Answer::Refused(refusal)),
-    };
-    Ok((Owner { crew, held }, Reply::Once(answer)))
-}
-
-fn settle<C: Performs>(mut crew: C, held: Option<Receipt>) -> Performed<C> {
-    let Some(receipt) = held else {
-        return settle_unheld(crew);
-    };
-    let (held, answer) = match crew.settle(receipt) {
-        Ok(how) => (None, Answer::Settled(how)),
-        Err(Unspent { refusal, receipt }) => (Some(receipt), Answer::Refused(refusal)),
-    };
-    Ok((Owner { crew, held }, Reply::Once(answer)))
 }
 
 /// Settles without a receipt of the crew: another crew lends one, and gets it back to settle its own collect.

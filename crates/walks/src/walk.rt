@@ -2,10 +2,9 @@
 use crate::call::{Call, Sizes, Step};
 use crate::fault::Fault;
 use crate::memory::Memory;
-use crate::owner::{Owner, Performs, Stuck};
+use crate::owner::{Owner, Stuck};
 use crate::reply::{Answer, Reply};
 use boards::Board;
-use line::crew::Crew;
 use std::alloc::{AllocError, Global};
 
 /// What tray 0 holds before the first call; the next hold one more each.
@@ -60,38 +59,18 @@ fn perform_list<B: Board>(
     steps: &[Step],
     replies: &mut Vec<Reply>,
 ) -> Result<(), Stuck> {
-    let open = Owner {
-        crew: Crew::new(),
-        held: None,
-    };
     let drain = steps
         .iter()
         .position(|step| matches!(step.call, Call::Drain))
         .unwrap_or(steps.len());
     let (before, rest) = steps.split_at(drain);
-    let Owner { crew, held } = perform_steps(open, memory, before, replies)?;
+    let owner = Owner::new().perform_all(memory, before, replies)?;
     let [_, after @ ..] = rest else {
-        return Owner { crew, held }.finish(memory);
+        return owner.finish(memory);
     };
     let _ = replies.push(Reply::Once(Answer::Accepted));
-    let draining = Owner {
-        crew: crew.drain(),
-        held,
-    };
-    perform_steps(draining, memory, after, replies)?.finish(memory)
-}
-
-/// Performs the steps in their order; `replies` has room for all of them.
-fn perform_steps<C: Performs, B: Board>(
-    mut owner: Owner<C>,
-    memory: &mut Memory<'_, B>,
-    steps: &[Step],
-    replies: &mut Vec<Reply>,
-) -> Result<Owner<C>, Stuck> {
-    for step in steps {
-        let (after, reply) = owner.perform(memory, *step)?;
-        owner = after;
-        let _ = replies.push(reply);
-    }
-    Ok(owner)
+    owner
+        .drain()
+        .perform_all(memory, after, replies)?
+        .finish(memory)
 }
