@@ -2,6 +2,7 @@
 #![tactic(auto)]
 
 use anyhow::anyhow;
+use std::alloc::Global;
 use std::io::{BufWriter, Read, Write};
 use std::{env, io};
 
@@ -15,7 +16,7 @@ use walking::explain::write_explained;
 use walking::walk::write_lines;
 
 /// More bytes than a script may have: reading stops there.
-const ENOUGH: usize = 60_001;
+const ENOUGH: u64 = 60_001;
 
 /// How the program is used.
 const USAGE: &str = "linewalk runs a script over a collecting line.
@@ -53,12 +54,10 @@ fn run(rt: &HostRuntime) -> anyhow::Result<()> {
 fn arguments(rt: &HostRuntime) -> anyhow::Result<Vec<String>> {
     match env::args(rt) {
         Ok(args) => Ok(args.skip(1).collect(rt.alloc())?),
-        Err(error) => match error.kind() {
-            io::ErrorKind::InvalidData => {
-                Err(anyhow!("an argument is no UTF-8 text (see linewalk --help)"))
-            }
-            _ => Err(error.into()),
-        },
+        Err(error) if error.kind() == io::ErrorKind::InvalidData => {
+            Err(anyhow!("an argument is no UTF-8 text (see linewalk --help)"))
+        }
+        Err(error) => Err(error.into()),
     }
 }
 
@@ -68,39 +67,20 @@ fn write_mode<W: Write>(rt: &HostRuntime, mode: Mode, out: &mut W) -> anyhow::Re
     match mode {
         Mode::Walk => write_lines(heap, read_script(rt)?.as_slice(), out)?,
         Mode::Explain => write_explained(heap, read_script(rt)?.as_slice(), out)?,
-        Mode::Batch => write_batch(heap, read_all(rt)?.as_slice(), out)?,
+        Mode::Batch => write_batch(heap, read_all(heap, rt.stdin())?.as_slice(), out)?,
         Mode::Help => out.write_all(USAGE.as_bytes())?,
     }
     Ok(())
 }
 
-/// The bytes on standard input.
-fn read_all(rt: &HostRuntime) -> io::Result<Vec<u8>> {
-    let mut input = Vec::new(rt.alloc());
-    rt.stdin().read_to_end(&mut input)?;
-    Ok(input)
-}
-
 /// The bytes on standard input, or as many of them as show that there are too many.
 fn read_script(rt: &HostRuntime) -> io::Result<Vec<u8>> {
-    let mut script = vec![in rt.alloc(); 0u8; ENOUGH]?;
-    let mut stdin = rt.stdin();
-    let mut filled = 0usize;
-    for _ in 0..ENOUGH {
-        let count = read_some(&mut stdin, script.as_mut_slice(), filled)?;
-        if count == 0 {
-            break;
-        }
-        filled = filled.saturating_add(count);
-    }
-    script.truncate(filled);
-    Ok(script)
+    read_all(rt.alloc(), rt.stdin().take(ENOUGH))
 }
 
-/// Reads into the part of the buffer that starts at `from`, and says how many bytes came.
-fn read_some<R: Read>(input: &mut R, buffer: &mut [u8], from: usize) -> io::Result<usize> {
-    if from >= buffer.len() {
-        return Ok(0);
-    }
-    input.read(&mut buffer[from..])
+/// All bytes of an input.
+fn read_all<R: Read + Drop>(heap: Global, mut input: R) -> io::Result<Vec<u8>> {
+    let mut bytes = Vec::new(heap);
+    input.read_to_end(&mut bytes)?;
+    Ok(bytes)
 }

@@ -1,13 +1,12 @@
 //! What the program is asked to do by its argument.
 ghost use Rattle.std.specs.Prelude.{◌≡◌, map, string_bytes};
 ghost use Rattle.std.specs.Result.{result_ok};
-ghost use Rattle.linewalk.specs.Modes.{mode_asked, mode_named};
+ghost use Rattle.linewalk.specs.Modes.{GoesBy, mode_asked};
 
-use std::error::Error;
-use std::fmt;
+use thiserror::Error;
 
 /// What the program does with standard input.
-#[derive(Clone, Copy, Debug)]
+#[derive(Clone, Copy, Debug, PartialEq, Eq)]
 pub enum Mode {
     /// Run one script, and print the line of each record.
     Walk,
@@ -24,60 +23,40 @@ impl Mode {
     pub fn parse<'a>(args: &'a [String]) -> Result<Mode, BadArgument<'a>>
         ensures { result_ok result ≡ mode_asked (map string_bytes args.now) }
     {
-        let [name, more @ ..] = args else {
-            return Ok(Mode::Walk);
-        };
-        let Some(mode) = Mode::named(name.as_str()) else {
-            return Err(BadArgument::Unknown(name.as_str()));
-        };
-        match more {
-            [] => Ok(mode),
-            [extra, ..] => Err(BadArgument::OneTooMany(extra.as_str())),
-        }
-    }
-
-    /// The mode that goes by this name.
-    fn named(name: &str) -> Option<Mode>
-        ensures { result ≡ mode_named name.now }
-    {
-        match name {
-            "--explain" => Some(Mode::Explain),
-            "--batch" => Some(Mode::Batch),
-            "--help" | "-h" => Some(Mode::Help),
-            _ => None,
-        }
-    }
-}
-
-/// An argument that the program does not take.
-#[derive(Clone, Copy)]
-pub enum BadArgument<'a> {
-    /// No mode goes by this name.
-    Unknown(&'a str),
-    /// This one stands behind a mode.
-    OneTooMany(&'a str),
-}
-
-/// The argument comes last: the program's last message is cut where it gets too long.
-impl fmt::Display for BadArgument<'_> {
-    fn fmt<W: fmt::Write>(&self, f: &mut fmt::Formatter<W>) -> fmt::Result {
-        match *self {
-            BadArgument::Unknown(name) => write!(
-                f,
-                "unknown argument (see linewalk --help): {name}"
-            ),
-            BadArgument::OneTooMany(extra) => {
-                write!(f, "one argument too many (see linewalk --help): {extra}")
+        match args {
+            [] => Ok(Mode::Walk),
+            [name] => Mode::try_from(name.as_str()),
+            [name, extra, ..] => {
+                Mode::try_from(name.as_str())?;
+                Err(BadArgument::OneTooMany(extra.as_str()))
             }
         }
     }
 }
 
-/// The same text: it is what the program ends with.
-impl fmt::Debug for BadArgument<'_> {
-    fn fmt<W: fmt::Write>(&self, f: &mut fmt::Formatter<W>) -> fmt::Result {
-        write!(f, "{self}")
+/// The mode that goes by a name.
+impl<'a> TryFrom<&'a str> for Mode {
+    type Error = BadArgument<'a>;
+
+    ghost try_from_gives = { λ name mode. GoesBy name.now mode };
+
+    fn try_from(name: &'a str) -> Result<Mode, BadArgument<'a>> {
+        match name {
+            "--explain" => Ok(Mode::Explain),
+            "--batch" => Ok(Mode::Batch),
+            "--help" | "-h" => Ok(Mode::Help),
+            _ => Err(BadArgument::Unknown(name)),
+        }
     }
 }
 
-impl Error for BadArgument<'_> {}
+/// An argument that the program does not take. It comes last in the message, which is cut where it gets too long.
+#[derive(Clone, Copy, Debug, Error)]
+pub enum BadArgument<'a> {
+    /// No mode goes by this name.
+    #[error("unknown argument (see linewalk --help): {0}")]
+    Unknown(&'a str),
+    /// This one stands behind a mode.
+    #[error("one argument too many (see linewalk --help): {0}")]
+    OneTooMany(&'a str),
+}

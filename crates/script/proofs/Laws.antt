@@ -2,7 +2,6 @@
 use Rattle.std.proofs.Common.{◌≡◌, ℕ, ◌+◌, List, ◌++◌, length, Some, None, Ok, Option, Result, refl, ap, arith, length-drop}
 use Rattle.runs.specs.declared.calls.DrainingCall.{DrainingCall}
 use Rattle.runs.specs.declared.calls.OpenCall.{OpenCall}
-use Rattle.script.specs.declared.call.Item.TheVariants.{Call, Drain}
 use Rattle.script.specs.declared.fault.Fault.{Fault}
 use Rattle.script.specs.declared.fault.FaultAt.{FaultAt}
 use Rattle.script.specs.declared.record.Record.{Record}
@@ -16,17 +15,17 @@ use Rattle.script.proofs.Readings.{item_within}
 -- the calls after a drain
 one_draining : (cs ds : List DrainingCall) (f g : Option FaultAt) (at : ℕ) (bs : List ℕ) → ReadsDraining cs f at bs → ReadsDraining ds g at bs → (cs ≡ ds) × (f ≡ g)
 one_draining cs ds f g =
-    one_part draining_item (Ends draining_item f) (Ends draining_item g) (f ≡ g) (λ at bs c. ended_final draining_item f at bs (Call c)) (λ at bs c. ended_final draining_item g at bs (Call c)) (one_end draining_item f g) cs ds
+    one_part draining_item (Ends draining_item f) (Ends draining_item g) (f ≡ g) (λ at bs c. ended_final draining_item f at bs (Some c)) (λ at bs c. ended_final draining_item g at bs (Some c)) (one_end draining_item f g) cs ds
 
 module _ {P : Type 0} (brought : Record → Result P Fault) where
-  open_final : (after : Option (List DrainingCall)) (f : Option FaultAt) (at : ℕ) (bs : List ℕ) (c : OpenCall P) → EndsOpen brought after f at bs → next_item (open_item brought) bs ≡ Ok (Call c) → ⊥
-  open_final None f at bs c e h = ended_final (open_item brought) f at bs (Call c) e h
-  open_final (Some ds) f at bs c e h = let k = e.0 in let z : ◌≡◌ {A = ℕ} 0 1 = cc in omega arith
+  open_final : (after : Option (List DrainingCall)) (f : Option FaultAt) (at : ℕ) (bs : List ℕ) (c : OpenCall P) → EndsOpen brought after f at bs → next_item (open_item brought) bs ≡ Ok (Some c) → ⊥
+  open_final None f at bs c e h = ended_final (open_item brought) f at bs (Some c) e h
+  open_final (Some ds) f at bs c e h = let k = e.0 in cc
 
   one_open_end : (after after' : Option (List DrainingCall)) (f g : Option FaultAt) (at : ℕ) (bs : List ℕ) → EndsOpen brought after f at bs → EndsOpen brought after' g at bs → (after ≡ after') × (f ≡ g)
   one_open_end None None f g at bs h k = (refl, one_end (open_item brought) f g at bs h k)
-  one_open_end None (Some ds) f g at bs h k = absurd (ended_final (open_item brought) f at bs Drain h k.0)
-  one_open_end (Some cs) None f g at bs h k = absurd (ended_final (open_item brought) g at bs Drain k h.0)
+  one_open_end None (Some ds) f g at bs h k = absurd (ended_final (open_item brought) f at bs None h k.0)
+  one_open_end (Some cs) None f g at bs h k = absurd (ended_final (open_item brought) g at bs None k h.0)
   one_open_end (Some cs) (Some ds) f g at bs h k =
       let same = one_draining cs ds f g (at + two bs 0) (rest_at bs) h.1 k.1 in
       (ap (λ l. Some l) same.0, same.1)
@@ -43,8 +42,8 @@ module _ {P : Type 0} (brought : Record → Result P Fault) where
   drains_on cs ds es f at xs ys h k =
       longer (open_item brought) (EndsOpen brought (Some ds) None) (EndsOpen brought (Some (ds ++ es)) f) (at + length xs) ys
       (λ a bs sum e.
-      let w = item_within (open_item brought) bs Drain e.0 in
-      let b = item_before (open_item brought) bs ys Drain e.0 in
+      let w = item_within (open_item brought) bs None e.0 in
+      let b = item_before (open_item brought) bs ys None e.0 in
       let place : at + length xs ≡ a + two bs 0 + length (rest_at bs) = omega (arith, length-drop (two bs 0) bs) in
       (b.0, rw (b.2, b.1) (appended draining_item (Ends draining_item f) ds es (a + two bs 0) (rest_at bs) ys e.1 (rw place at k))))
       cs at xs refl h
@@ -56,7 +55,7 @@ module _ {P : Type 0} (brought : Record → Result P Fault) where
   cut_open : (after : Option (List DrainingCall)) (f : FaultAt) (at : ℕ) (bs : List ℕ) → EndsOpen brought after (Some f) at bs → Cut (open_item brought) (EndsOpen brought after None) f.at at bs
   cut_open None f at bs h = cut_fault (open_item brought) f at bs h
   cut_open (Some ds) f at bs h =
-      cut_behind (open_item brought) (ReadsDraining ds None) (EndsOpen brought (Some ds) None) f.at at bs Drain h.0 (λ xs e k. (e, k)) (cut_draining ds f (at + two bs 0) (rest_at bs) h.1)
+      cut_behind (open_item brought) (ReadsDraining ds None) (EndsOpen brought (Some ds) None) f.at at bs None h.0 (λ xs e k. (e, k)) (cut_draining ds f (at + two bs 0) (rest_at bs) h.1)
 
   pub keeps_calls_before : KeepsCallsBefore brought
   keeps_calls_before cs after f at bs h =

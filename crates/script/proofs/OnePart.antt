@@ -2,8 +2,6 @@
 use Rattle.std.proofs.Common.{◌≡◌, ℕ, ◌+◌, ◌-◌, ◌<◌, ◌≤◌, List, [], ◌∷◌, ◌++◌, length, take, drop, Some, None, Ok, Option, Result, sym, refl, ap, ◌∙◌, arith, length-drop}
 use Rattle.std.proofs.lemmas.List.{length-take-le, take-append-drop}
 use Rattle.std.proofs.lemmas.Slice.{between_is}
-use Rattle.script.specs.declared.call.Item.{Item}
-use Rattle.script.specs.declared.call.Item.TheVariants.{Call}
 use Rattle.script.specs.declared.fault.Fault.{Fault}
 use Rattle.script.specs.declared.fault.FaultAt.{FaultAt}
 use Rattle.script.specs.declared.record.Record.{Record}
@@ -15,14 +13,14 @@ use Rattle.script.proofs.Readings.{item_within, joined_calls}
 same_fault : (f g : FaultAt) → f.fault ≡ g.fault → f.at ≡ g.at → f ≡ g
 same_fault f g e p = λ i. record { fault = e i; at = p i }
 
-module _ {C : Type 0} (item_of : Record → Result (Item C) Fault) where
+module _ {C : Type 0} (item_of : Record → Result (Option C) Fault) where
   -- where no call follows
   abbrev pub Final : (ℕ → List ℕ → Type 0) → Type 0
-  Final S = (at : ℕ) (bs : List ℕ) (c : C) → S at bs → next_item item_of bs ≡ Ok (Call c) → ⊥
+  Final S = (at : ℕ) (bs : List ℕ) (c : C) → S at bs → next_item item_of bs ≡ Ok (Some c) → ⊥
 
-  pub ended_final : (f : Option FaultAt) (at : ℕ) (bs : List ℕ) (i : Item C) → Ends item_of f at bs → next_item item_of bs ≡ Ok i → ⊥
+  pub ended_final : (f : Option FaultAt) (at : ℕ) (bs : List ℕ) (i : Option C) → Ends item_of f at bs → next_item item_of bs ≡ Ok i → ⊥
   ended_final None at bs i e h = let w = item_within item_of bs i h in omega (arith, ap length e)
-  ended_final (Some f) at bs i e h = let k = e.1 in let z : ◌≡◌ {A = ℕ} 0 1 = cc in omega arith
+  ended_final (Some f) at bs i e h = let k = e.1 in cc
 
   pub one_end : (f g : Option FaultAt) (at : ℕ) (bs : List ℕ) → Ends item_of f at bs → Ends item_of g at bs → f ≡ g
   one_end None None at bs h k = refl
@@ -43,7 +41,7 @@ module _ {C : Type 0} (item_of : Record → Result (Item C) Fault) where
       (let r = rest.0 in cc, rest.1)
 
   -- an item in the bytes `xs` is the same with `ys` behind them
-  pub item_before : (xs ys : List ℕ) (i : Item C) → next_item item_of xs ≡ Ok i → (next_item item_of (xs ++ ys) ≡ Ok i) × (two (xs ++ ys) 0 ≡ two xs 0) × (rest_at (xs ++ ys) ≡ rest_at xs ++ ys)
+  pub item_before : (xs ys : List ℕ) (i : Option C) → next_item item_of xs ≡ Ok i → (next_item item_of (xs ++ ys) ≡ Ok i) × (two (xs ++ ys) 0 ≡ two xs 0) × (rest_at (xs ++ ys) ≡ rest_at xs ++ ys)
   item_before xs ys i h =
       let w = item_within item_of xs i h in (
         ap (said item_of) (record_before xs ys w.0 w.1 w.2) ∙ h,
@@ -55,8 +53,8 @@ module _ {C : Type 0} (item_of : Record → Result (Item C) Fault) where
   pub longer : (S T : ℕ → List ℕ → Type 0) (end : ℕ) (ys : List ℕ) → ((at : ℕ) (bs : List ℕ) → at + length bs ≡ end → S at bs → T at (bs ++ ys)) → (cs : List C) (at : ℕ) (xs : List ℕ) → at + length xs ≡ end → CallsUpTo item_of S cs at xs → CallsUpTo item_of T cs at (xs ++ ys)
   longer S T end ys tell [] at xs sum h = tell at xs sum h
   longer S T end ys tell (c ∷ cs) at xs sum h =
-      let w = item_within item_of xs (Call c) h.0 in
-      let b = item_before xs ys (Call c) h.0 in
+      let w = item_within item_of xs (Some c) h.0 in
+      let b = item_before xs ys (Some c) h.0 in
       let len = length-drop (two xs 0) xs in
       (b.0, rw (b.2, b.1) (longer S T end ys tell cs (at + two xs 0) (rest_at xs) (omega arith) h.1))
 
@@ -69,7 +67,7 @@ module _ {C : Type 0} (item_of : Record → Result (Item C) Fault) where
       cs at xs refl h)
 
   -- an item in a front of the bytes
-  item_in_front : (bs : List ℕ) (m : ℕ) (i : Item C) → next_item item_of bs ≡ Ok i → two bs 0 ≤ m → m ≤ length bs → (next_item item_of (take m bs) ≡ Ok i) × (two (take m bs) 0 ≡ two bs 0) × (rest_at (take m bs) ≡ take (m - two bs 0) (rest_at bs))
+  item_in_front : (bs : List ℕ) (m : ℕ) (i : Option C) → next_item item_of bs ≡ Ok i → two bs 0 ≤ m → m ≤ length bs → (next_item item_of (take m bs) ≡ Ok i) × (two (take m bs) 0 ≡ two bs 0) × (rest_at (take m bs) ≡ take (m - two bs 0) (rest_at bs))
   item_in_front bs m i h low high =
       let w = item_within item_of bs i h in
       let len : length (take m bs) ≡ m = length-take-le m bs high in
@@ -85,7 +83,7 @@ module _ {C : Type 0} (item_of : Record → Result (Item C) Fault) where
   Cut T p at bs = (at ≤ p) × (p < at + length bs) × T at (take (p - at) bs)
 
   -- bytes are cut behind an item
-  pub cut_behind : (T U : ℕ → List ℕ → Type 0) (p at : ℕ) (bs : List ℕ) (i : Item C) → next_item item_of bs ≡ Ok i → ((xs : List ℕ) → next_item item_of xs ≡ Ok i → T (at + two xs 0) (rest_at xs) → U at xs) → Cut T p (at + two bs 0) (rest_at bs) → Cut U p at bs
+  pub cut_behind : (T U : ℕ → List ℕ → Type 0) (p at : ℕ) (bs : List ℕ) (i : Option C) → next_item item_of bs ≡ Ok i → ((xs : List ℕ) → next_item item_of xs ≡ Ok i → T (at + two xs 0) (rest_at xs) → U at xs) → Cut T p (at + two bs 0) (rest_at bs) → Cut U p at bs
   cut_behind T U p at bs i h tell k =
       let w = item_within item_of bs i h in
       let len = length-drop (two bs 0) bs in
@@ -96,7 +94,7 @@ module _ {C : Type 0} (item_of : Record → Result (Item C) Fault) where
   pub cut_calls : (S T : ℕ → List ℕ → Type 0) (p : ℕ) → ((at : ℕ) (bs : List ℕ) → S at bs → Cut T p at bs) → (cs : List C) (at : ℕ) (bs : List ℕ) → CallsUpTo item_of S cs at bs → Cut (CallsUpTo item_of T cs) p at bs
   cut_calls S T p tell [] at bs h = tell at bs h
   cut_calls S T p tell (c ∷ cs) at bs h =
-      cut_behind (CallsUpTo item_of T cs) (CallsUpTo item_of T (c ∷ cs)) p at bs (Call c) h.0 (λ xs e k. (e, k)) (cut_calls S T p tell cs (at + two bs 0) (rest_at bs) h.1)
+      cut_behind (CallsUpTo item_of T cs) (CallsUpTo item_of T (c ∷ cs)) p at bs (Some c) h.0 (λ xs e k. (e, k)) (cut_calls S T p tell cs (at + two bs 0) (rest_at bs) h.1)
 
   -- nothing is left before a fault
   pub cut_fault : (f : FaultAt) (at : ℕ) (bs : List ℕ) → Ends item_of (Some f) at bs → Cut (Ends item_of None) f.at at bs

@@ -1,24 +1,20 @@
 -- Reading the items of one part of a script, one after another.
-use Rattle.std.proofs.Common.{◌≡◌, ℕ, ◌+◌, ◌-◌, ◌<◌, ◌≤◌, List, [], ◌∷◌, ◌++◌, length, drop, Ok, Err, Result, sym, refl, ap, ◌∙◌, subst, arith, length-drop}
+use Rattle.std.proofs.Common.{◌≡◌, ℕ, ◌+◌, ◌-◌, ◌<◌, ◌≤◌, List, [], ◌∷◌, ◌++◌, length, drop, Some, None, Option, Ok, Err, Result, sym, refl, ap, ◌∙◌, subst, arith, length-drop}
 use Rattle.std.proofs.lemmas.List.{drop-drop}
-use Rattle.script.specs.declared.call.Item.{Item}
-use Rattle.script.specs.declared.call.Item.TheVariants.{Call, Drain}
 use Rattle.script.specs.declared.fault.Fault.{Fault}
 use Rattle.script.specs.declared.fault.FaultAt.{FaultAt}
 use Rattle.script.specs.declared.record.Record.{Record}
-use Rattle.script.specs.declared.script.Stop.{Stop}
-use Rattle.script.specs.declared.script.Stop.TheVariants.{Drained, Faulty}
 use Rattle.script.specs.Records.{record_at, rest_at, two}
 use Rattle.script.specs.Scripts.{CallsUpTo, Stops, next_item, said}
 use Rattle.script.proofs.InBytes.{record_within}
 
-module _ {C : Type 0} (item_of : Record → Result (Item C) Fault) where
-  was_read : (x : Result Record Fault) (i : Item C) → said item_of x ≡ Ok i → (r : Record) × (x ≡ Ok r)
+module _ {C : Type 0} (item_of : Record → Result (Option C) Fault) where
+  was_read : (x : Result Record Fault) (i : Option C) → said item_of x ≡ Ok i → (r : Record) × (x ≡ Ok r)
   was_read (Ok r) i h = (r, refl)
-  was_read (Err f) i h = absurd (let z : ◌≡◌ {A = ℕ} 0 1 = cc in omega arith)
+  was_read (Err f) i h = cc
 
   -- a record whose item is read lies whole in its bytes
-  pub item_within : (bs : List ℕ) (i : Item C) → next_item item_of bs ≡ Ok i → (4 ≤ length bs) × (4 ≤ two bs 0) × (two bs 0 ≤ length bs)
+  pub item_within : (bs : List ℕ) (i : Option C) → next_item item_of bs ≡ Ok i → (4 ≤ length bs) × (4 ≤ two bs 0) × (two bs 0 ≤ length bs)
   item_within bs i h = let p = was_read (record_at bs) i h in record_within bs p.0 p.1
 
   -- the bytes `bs` at place `at` are the end of `xs`, which starts at `from`
@@ -28,7 +24,7 @@ module _ {C : Type 0} (item_of : Record → Result (Item C) Fault) where
   pub all_of : (from : ℕ) (xs : List ℕ) → EndOf from xs from xs
   all_of from xs = let none : from - from ≡ 0 = omega arith in (omega arith, refl, rw none)
 
-  pub passed : (from : ℕ) (xs : List ℕ) (at : ℕ) (bs : List ℕ) (i : Item C) → next_item item_of bs ≡ Ok i → EndOf from xs at bs → EndOf from xs (at + two bs 0) (rest_at bs)
+  pub passed : (from : ℕ) (xs : List ℕ) (at : ℕ) (bs : List ℕ) (i : Option C) → next_item item_of bs ≡ Ok i → EndOf from xs at bs → EndOf from xs (at + two bs 0) (rest_at bs)
   passed from xs at bs i h p =
       let w = item_within bs i h in
       let n : at - from + two bs 0 ≡ at + two bs 0 - from = omega arith in (
@@ -41,7 +37,7 @@ module _ {C : Type 0} (item_of : Record → Result (Item C) Fault) where
   pub retold : (S T : ℕ → List ℕ → Type 0) (from : ℕ) (xs : List ℕ) → ((at : ℕ) (bs : List ℕ) → EndOf from xs at bs → S at bs → T at bs) → (cs : List C) (at : ℕ) (bs : List ℕ) → EndOf from xs at bs → CallsUpTo item_of S cs at bs → CallsUpTo item_of T cs at bs
   retold S T from xs tell [] at bs p h = tell at bs p h
   retold S T from xs tell (c ∷ cs) at bs p h =
-      (h.0, retold S T from xs tell cs (at + two bs 0) (rest_at bs) (passed from xs at bs (Call c) h.0 p) h.1)
+      (h.0, retold S T from xs tell cs (at + two bs 0) (rest_at bs) (passed from xs at bs (Some c) h.0 p) h.1)
 
   -- what follows from it alone, holds
   pub behind_calls : (R : Type 0) (cs : List C) (at : ℕ) (bs : List ℕ) → CallsUpTo item_of (λ _ _. R) cs at bs → R
@@ -72,34 +68,34 @@ module _ {C : Type 0} (item_of : Record → Result (Item C) Fault) where
       items from xs (all_of from xs) inv.1
 
   -- what is left behind an item is shorter, and starts at the place behind it
-  behind_item : (from : ℕ) (xs left left' : List ℕ) (i : Item C) → next_item item_of left ≡ Ok i → left' ≡ rest_at left → length left ≤ length xs → (length left' < length left) × (place_of from xs left' ≡ place_of from xs left + two left 0)
+  behind_item : (from : ℕ) (xs left left' : List ℕ) (i : Option C) → next_item item_of left ≡ Ok i → left' ≡ rest_at left → length left ≤ length xs → (length left' < length left) × (place_of from xs left' ≡ place_of from xs left + two left 0)
   behind_item from xs left left' i h rest le =
       let w = item_within left i h in
       let len = length-drop (two left 0) left in
       rw rest (omega arith, omega arith)
 
   -- one more call is read
-  pub one_more : (items items' : List C) (c : C) (from : ℕ) (xs left left' : List ℕ) → items' ≡ items ++ c ∷ [] → next_item item_of left ≡ Ok (Call c) → left' ≡ rest_at left → ReadSoFar items from xs left → (length left' < length left) × ReadSoFar items' from xs left'
+  pub one_more : (items items' : List C) (c : C) (from : ℕ) (xs left left' : List ℕ) → items' ≡ items ++ c ∷ [] → next_item item_of left ≡ Ok (Some c) → left' ≡ rest_at left → ReadSoFar items from xs left → (length left' < length left) × ReadSoFar items' from xs left'
   one_more items items' c from xs left left' more called rest inv =
-      let p = behind_item from xs left left' (Call c) called rest inv.0 in
+      let p = behind_item from xs left left' (Some c) called rest inv.0 in
       let S : ℕ → List ℕ → Type 0 = Left left' in
       let within : length left' ≤ length xs = omega arith in
       (p.0, (within, rw more (joined_calls S items (c ∷ []) from xs (stops (CallsUpTo item_of S (c ∷ [])) items from xs left inv (called, sym rest)))))
 
   -- the next record is faulty
-  pub faulted : (items : List C) (f : FaultAt) (from : ℕ) (xs left : List ℕ) → 0 < length left → next_item item_of left ≡ Err f.fault → f.at ≡ place_of from xs left → ReadSoFar items from xs left → CallsUpTo item_of (Stops item_of (Faulty f)) items from xs
+  pub faulted : (items : List C) (f : FaultAt) (from : ℕ) (xs left : List ℕ) → 0 < length left → next_item item_of left ≡ Err f.fault → f.at ≡ place_of from xs left → ReadSoFar items from xs left → CallsUpTo item_of (Stops item_of (Err f)) items from xs
   faulted items f from xs left more refused place inv =
-      stops (Stops item_of (Faulty f)) items from xs left inv (more, refused, place)
+      stops (Stops item_of (Err f)) items from xs left inv (more, refused, place)
 
   -- the drain is read
-  pub drained : (items : List C) (from : ℕ) (xs left left' : List ℕ) → next_item item_of left ≡ Ok Drain → left' ≡ rest_at left → ReadSoFar items from xs left → (length left' ≤ length xs) × CallsUpTo item_of (Stops item_of (Drained (place_of from xs left'))) items from xs
+  pub drained : (items : List C) (from : ℕ) (xs left left' : List ℕ) → next_item item_of left ≡ Ok None → left' ≡ rest_at left → ReadSoFar items from xs left → (length left' ≤ length xs) × CallsUpTo item_of (Stops item_of (Ok (Some (place_of from xs left')))) items from xs
   drained items from xs left left' drains rest inv =
-      let p = behind_item from xs left left' Drain drains rest inv.0 in
-      (omega arith, stops (Stops item_of (Drained (place_of from xs left'))) items from xs left inv (drains, p.1))
+      let p = behind_item from xs left left' None drains rest inv.0 in
+      (omega arith, stops (Stops item_of (Ok (Some (place_of from xs left')))) items from xs left inv (drains, p.1))
 
   -- the bytes behind the drain lie within those that were read
-  pub drain_within : (items : List C) (stop : Stop) (behind from : ℕ) (xs : List ℕ) → stop ≡ Drained behind → CallsUpTo item_of (Stops item_of stop) items from xs → (from ≤ behind) × (behind ≤ from + length xs)
+  pub drain_within : (items : List C) (stop : Result (Option ℕ) FaultAt) (behind from : ℕ) (xs : List ℕ) → stop ≡ Ok (Some behind) → CallsUpTo item_of (Stops item_of stop) items from xs → (from ≤ behind) × (behind ≤ from + length xs)
   drain_within items stop behind from xs e h =
       let R : Type 0 = (from ≤ behind) × (behind ≤ from + length xs) in
       behind_calls R items from xs
-      (retold (Stops item_of (Drained behind)) (λ _ _. R) from xs (λ at bs p s. let w = item_within bs Drain s.0 in (omega arith, omega arith)) items from xs (all_of from xs) (rw e at h))
+      (retold (Stops item_of (Ok (Some behind))) (λ _ _. R) from xs (λ at bs p s. let w = item_within bs None s.0 in (omega arith, omega arith)) items from xs (all_of from xs) (rw e at h))

@@ -1,12 +1,13 @@
 -- What the record of a post brings.
 -- A reading has a tag (1 temperature, 2 bias voltage, 3 mean dark level, 4 fault code) and the bits of its value.
-use Rattle.std.specs.Prelude.{ℕ, ◌/◌, ◌%◌, Bool, cond, not, ◌&&◌, Ok, Err, Result, ◌==◌, from_bits, nat_le}
-use Rattle.std.specs.Float.{binary32}
+use Rattle.std.specs.Prelude.{ℕ, ◌/◌, ◌%◌, Bool, cond, not, ◌&&◌, Ok, Err, Result, ◌==◌, from_bits, nat_le, List, ◌++◌, codes, decimal, Some, None, Option}
+use Rattle.std.specs.Float.{Float, binary32}
 use Rattle.script.specs.declared.fault.Fault.{Fault}
 use Rattle.script.specs.declared.fault.Fault.TheVariants.{OutOfPlace, FieldNotAllowed}
 use Rattle.script.specs.declared.payload.Note.{Note}
 use Rattle.script.specs.declared.payload.Note.TheVariants.{Temperature, BiasVoltage, DarkLevel, FaultCode}
 use Rattle.script.specs.declared.payload.Ticket.{Ticket}
+use Rattle.script.specs.declared.record.Kind.TheVariants.{PostTicket, PostNote}
 use Rattle.script.specs.declared.record.Record.{Record}
 
 -- the bits of a float that is a finite number: its exponent bits are not all ones
@@ -26,9 +27,24 @@ reading tag bits =
 abbrev pub note_of : ℕ → ℕ → Result Note Fault
 note_of tag bits = cond (allowed_reading tag bits) (Ok (reading tag bits)) (Err FieldNotAllowed)
 
+abbrev pub measured : ℕ → Result Float Fault
+measured bits = cond (finite bits) (Ok (from_bits binary32 bits)) (Err FieldNotAllowed)
+
 abbrev pub ticket_brought : Record → Result Ticket Fault
 ticket_brought r =
-    cond (r.kind == 3) (Ok (record { frame = r.frame; place = r.place; length = r.length })) (Err OutOfPlace)
+    elim r.kind [ PostTicket ↦ Ok (record { frame = r.frame; place = r.place; length = r.length }) | _ ↦ Err OutOfPlace ]
 
 abbrev pub note_brought : Record → Result Note Fault
-note_brought r = cond (r.kind == 4) (note_of r.tag r.value) (Err OutOfPlace)
+note_brought r = elim r.kind [ PostNote ↦ note_of r.tag r.value | _ ↦ Err OutOfPlace ]
+
+-- the text of a ticket
+abbrev pub ticket_text : Ticket → List ℕ
+ticket_text t =
+    codes "frame " ++ (decimal t.frame ++ (codes ", place " ++ (decimal t.place ++ (codes ", length " ++ decimal t.length))))
+
+-- the text of a note; None for a measured value, since no contract says how a float is printed
+abbrev pub note_text : Note → Option (List ℕ)
+note_text (FaultCode code) = Some (codes "fault code " ++ decimal code)
+note_text (Temperature _) = None
+note_text (BiasVoltage _) = None
+note_text (DarkLevel _) = None

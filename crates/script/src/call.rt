@@ -1,45 +1,36 @@
 //! What a record after the laying says, before the drain and after it.
-ghost use Rattle.std.specs.Prelude.{◌≡◌, Result};
+ghost use Rattle.std.specs.Prelude.{◌≡◌, Option, Result};
 ghost use Rattle.script.specs.Calls.{crew_call, draining_item, open_item};
-ghost use Rattle.script.specs.declared.call.Item.{Item};
 ghost use Rattle.script.specs.declared.fault.Fault.{Fault};
 ghost use Rattle.script.specs.declared.record.Record.{Record};
 
 use crate::fault::Fault;
 use crate::payload::Payload;
-use crate::record::Record;
+use crate::record::{Kind, Record};
 use runs::calls::{CrewCall, DrainingCall, OpenCall};
-
-/// What a record after the laying says.
-#[derive(Clone, Copy)]
-pub enum Item<C> {
-    /// Make this call.
-    Call(C),
-    /// Drain the line: the calls after this record are those of a draining crew.
-    Drain,
-}
 
 /// The calls of one part of a script: those before the drain, or those after it.
 pub trait Call: Copy {
     /// What a record in this part says, or why it may not stand there.
-    ghost item: { Record → Result (Item Self) Fault };
+    ghost item: { Record → Result (Option Self) Fault };
 
-    /// What the record says in this part.
-    fn of_record(record: &Record) -> Result<Item<Self>, Fault>
+    /// The call that the record makes in this part; None where it drains the line: the calls after it are those of a
+    /// draining crew.
+    fn of_record(record: &Record) -> Result<Option<Self>, Fault>
         ensures { result ≡ item «record».now };
 }
 
 impl<P: Payload> Call for OpenCall<P> {
     ghost item = { open_item P.Payload.brought };
 
-    fn of_record(record: &Record) -> Result<Item<OpenCall<P>>, Fault> {
+    fn of_record(record: &Record) -> Result<Option<OpenCall<P>>, Fault> {
         match record.kind {
-            3 | 4 => Ok(Item::Call(OpenCall::BeginPost {
+            Kind::PostTicket | Kind::PostNote => Ok(Some(OpenCall::BeginPost {
                 lane: record.lane as usize,
                 payload: P::of_record(record)?,
             })),
-            9 => Ok(Item::Drain),
-            _ => Ok(Item::Call(OpenCall::Any(crew_call(record)?))),
+            Kind::Drain => Ok(None),
+            _ => Ok(Some(OpenCall::Any(crew_call(record)?))),
         }
     }
 }
@@ -47,10 +38,10 @@ impl<P: Payload> Call for OpenCall<P> {
 impl Call for DrainingCall {
     ghost item = { draining_item };
 
-    fn of_record(record: &Record) -> Result<Item<DrainingCall>, Fault> {
+    fn of_record(record: &Record) -> Result<Option<DrainingCall>, Fault> {
         match record.kind {
-            10 => Ok(Item::Call(DrainingCall::Report)),
-            _ => Ok(Item::Call(DrainingCall::Any(crew_call(record)?))),
+            Kind::Report => Ok(Some(DrainingCall::Report)),
+            _ => Ok(Some(DrainingCall::Any(crew_call(record)?))),
         }
     }
 }
@@ -61,15 +52,19 @@ fn crew_call(record: &Record) -> Result<CrewCall, Fault>
 {
     let times = record.times;
     match record.kind {
-        5 | 7 if times == 0 => Err(Fault::FieldNotAllowed),
-        5 => Ok(CrewCall::GrantLane {
+        Kind::GrantLane | Kind::GrantCollector if times == 0 => Err(Fault::FieldNotAllowed),
+        Kind::GrantLane => Ok(CrewCall::GrantLane {
             lane: record.lane as usize,
             times,
         }),
-        6 => Ok(CrewCall::BeginCollect),
-        7 => Ok(CrewCall::GrantCollector { times }),
-        8 => Ok(CrewCall::Settle),
-        1..=4 | 9 | 10 => Err(Fault::OutOfPlace),
-        _ => Err(Fault::UnknownKind),
+        Kind::BeginCollect => Ok(CrewCall::BeginCollect),
+        Kind::GrantCollector => Ok(CrewCall::GrantCollector { times }),
+        Kind::Settle => Ok(CrewCall::Settle),
+        Kind::LayTickets
+        | Kind::LayNotes
+        | Kind::PostTicket
+        | Kind::PostNote
+        | Kind::Drain
+        | Kind::Report => Err(Fault::OutOfPlace),
     }
 }

@@ -1,23 +1,25 @@
 //! What can be wrong with a script, and where.
 ghost use Rattle.std.specs.Prelude.{◌≡◌, Some};
-ghost use Rattle.script.specs.Faults.{fault_line, fault_number};
+ghost use Rattle.script.specs.Faults.{fault_line, fault_number, fault_text};
 
+use std::error::Error;
 use std::fmt;
 
-/// Why a script ends before its last byte. Where several fit a record, the first in this order is meant.
-#[derive(Clone, Copy)]
+/// Why a script ends before its last byte, with the number under which it is reported. Where several fit a record, the
+/// first in this order is meant.
+#[derive(Clone, Copy, Debug, PartialEq, Eq)]
 pub enum Fault {
     /// The record is cut short, or its length is not the one of its kind.
-    CutShort,
+    CutShort = 14,
     /// No record has this kind.
-    UnknownKind,
+    UnknownKind = 15,
     /// The kind cannot stand here: a script begins with a laying, has no second one, posts one kind of payload,
     /// and has no post and no second drain after its drain.
-    OutOfPlace,
+    OutOfPlace = 16,
     /// A number of the record has no meaning.
-    FieldNotAllowed,
+    FieldNotAllowed = 17,
     /// The script has more bytes than any script may have.
-    TooLong,
+    TooLong = 18,
 }
 
 impl Fault {
@@ -25,18 +27,29 @@ impl Fault {
     pub fn number(self) -> u8
         ensures { result ≡ fault_number self }
     {
-        match self {
-            Fault::CutShort => 14,
-            Fault::UnknownKind => 15,
-            Fault::OutOfPlace => 16,
-            Fault::FieldNotAllowed => 17,
-            Fault::TooLong => 18,
-        }
+        self as u8
     }
 }
 
+/// What stands in the script, in words.
+impl fmt::Display for Fault {
+    ghost output = { λ fault. Some (fault_text fault) };
+
+    fn fmt<W: fmt::Write>(&self, f: &mut fmt::Formatter<W>) -> fmt::Result {
+        f.write_str(match self {
+            Fault::CutShort => "a record cut short or of wrong length",
+            Fault::UnknownKind => "a record of unknown kind",
+            Fault::OutOfPlace => "a record whose kind is out of place",
+            Fault::FieldNotAllowed => "a record with a field that is not allowed",
+            Fault::TooLong => "a script of more than 60,000 bytes",
+        })
+    }
+}
+
+impl Error for Fault {}
+
 /// A fault, and the byte of the script at which the faulty record starts.
-#[derive(Clone, Copy)]
+#[derive(Clone, Copy, Debug, PartialEq, Eq)]
 pub struct FaultAt {
     /// What is wrong.
     pub fault: Fault,
@@ -53,3 +66,5 @@ impl fmt::Display for FaultAt {
         write!(f, "fault {number} at {at}")
     }
 }
+
+impl Error for FaultAt {}

@@ -1,15 +1,16 @@
 //! What a post brings: a ticket or a note.
-ghost use Rattle.std.specs.Prelude.{◌≡◌, Result};
+ghost use Rattle.std.specs.Prelude.{◌≡◌, Some, Result};
 ghost use Rattle.script.specs.declared.fault.Fault.{Fault};
 ghost use Rattle.script.specs.declared.record.Record.{Record};
-ghost use Rattle.script.specs.Payloads.{allowed_reading, note_of, note_brought, ticket_brought};
+ghost use Rattle.script.specs.Payloads.{measured, note_of, note_brought, note_text, ticket_brought, ticket_text};
 
 use crate::fault::Fault;
-use crate::record::Record;
+use crate::record::{Kind, Record};
+use std::fmt;
 
 /// A frame that lies elsewhere: which one, where it starts and how long it is.
 #[repr(C)]
-#[derive(Clone, Copy)]
+#[derive(Clone, Copy, Default)]
 pub struct Ticket {
     /// The frame's number.
     pub frame: u32,
@@ -32,6 +33,32 @@ pub enum Note {
     FaultCode(u32),
 }
 
+impl fmt::Display for Ticket {
+    ghost output = { λ ticket. Some (ticket_text ticket) };
+
+    fn fmt<W: fmt::Write>(&self, f: &mut fmt::Formatter<W>) -> fmt::Result {
+        let Ticket {
+            frame,
+            place,
+            length,
+        } = *self;
+        write!(f, "frame {frame}, place {place}, length {length}")
+    }
+}
+
+impl fmt::Display for Note {
+    ghost output = { note_text };
+
+    fn fmt<W: fmt::Write>(&self, f: &mut fmt::Formatter<W>) -> fmt::Result {
+        match *self {
+            Note::Temperature(value) => write!(f, "temperature {value}"),
+            Note::BiasVoltage(value) => write!(f, "bias voltage {value}"),
+            Note::DarkLevel(value) => write!(f, "mean dark level {value}"),
+            Note::FaultCode(code) => write!(f, "fault code {code}"),
+        }
+    }
+}
+
 /// What the posts of a script bring. All posts of one script bring the same type.
 pub trait Payload: Copy {
     /// What a post's record brings, or why it brings nothing.
@@ -47,7 +74,7 @@ impl Payload for Ticket {
 
     fn of_record(record: &Record) -> Result<Ticket, Fault> {
         match record.kind {
-            3 => Ok(Ticket {
+            Kind::PostTicket => Ok(Ticket {
                 frame: record.frame,
                 place: record.place,
                 length: record.length,
@@ -62,7 +89,7 @@ impl Payload for Note {
 
     fn of_record(record: &Record) -> Result<Note, Fault> {
         match record.kind {
-            4 => note_of(record.tag, record.value),
+            Kind::PostNote => note_of(record.tag, record.value),
             _ => Err(Fault::OutOfPlace),
         }
     }
@@ -72,27 +99,21 @@ impl Payload for Note {
 fn note_of(tag: u16, bits: u32) -> Result<Note, Fault>
     ensures { result ≡ note_of tag bits }
 {
-    if !allowed_reading(tag, bits) {
-        return Err(Fault::FieldNotAllowed);
+    match tag {
+        1 => Ok(Note::Temperature(measured(bits)?)),
+        2 => Ok(Note::BiasVoltage(measured(bits)?)),
+        3 => Ok(Note::DarkLevel(measured(bits)?)),
+        4 => Ok(Note::FaultCode(bits)),
+        _ => Err(Fault::FieldNotAllowed),
     }
-    if tag == 4 {
-        return Ok(Note::FaultCode(bits));
-    }
-    let value = f32::from_bits(bits);
-    Ok(match tag {
-        1 => Note::Temperature(value),
-        2 => Note::BiasVoltage(value),
-        _ => Note::DarkLevel(value),
-    })
 }
 
-/// Whether there is such a reading: a measured value is a finite number, a fault code is any number.
-fn allowed_reading(tag: u16, bits: u32) -> bool
-    ensures { result ≡ allowed_reading tag bits }
+/// The measured value with these bits, if it is a finite number: its exponent bits are not all ones.
+fn measured(bits: u32) -> Result<f32, Fault>
+    ensures { result ≡ measured bits }
 {
-    match tag {
-        1..=3 => bits / 0x80_0000 % 256 != 255,
-        4 => true,
-        _ => false,
+    if bits / 0x80_0000 % 256 == 255 {
+        return Err(Fault::FieldNotAllowed);
     }
+    Ok(f32::from_bits(bits))
 }

@@ -1,15 +1,62 @@
 //! One record of a script, read from the front of some bytes.
 ghost use Rattle.std.specs.Prelude.{◌≡◌, Ok, Err};
-ghost use Rattle.script.specs.Records.{blank, body_at, collector_grant, if_long, lane_grant, laying, note_post, record_at, rest_at, ticket_post};
+ghost use Rattle.script.specs.Records.{blank, body_of, collector_grant, if_long, kind_of, lane_grant, laying, note_post, record_at, rest_at, ticket_post};
 
 use crate::fault::Fault;
 
-/// The numbers of a record, as they stand in the script. A number that the kind does not have is 0.
+/// What a record asks for.
+#[derive(Clone, Copy, Debug, PartialEq, Eq)]
+pub enum Kind {
+    /// Lay a line for tickets.
+    LayTickets,
+    /// Lay a line for notes.
+    LayNotes,
+    /// Begin the post of a ticket.
+    PostTicket,
+    /// Begin the post of a note.
+    PostNote,
+    /// Grant a lane.
+    GrantLane,
+    /// Begin a collect.
+    BeginCollect,
+    /// Grant the collector.
+    GrantCollector,
+    /// Settle the collect.
+    Settle,
+    /// Drain the crew.
+    Drain,
+    /// Report both totals.
+    Report,
+}
+
+/// The kind that a number in a script stands for.
+impl TryFrom<u16> for Kind {
+    type Error = Fault;
+
+    ghost try_from_gives = { λ number kind. kind ≡ kind_of number };
+
+    fn try_from(number: u16) -> Result<Kind, Fault> {
+        match number {
+            1 => Ok(Kind::LayTickets),
+            2 => Ok(Kind::LayNotes),
+            3 => Ok(Kind::PostTicket),
+            4 => Ok(Kind::PostNote),
+            5 => Ok(Kind::GrantLane),
+            6 => Ok(Kind::BeginCollect),
+            7 => Ok(Kind::GrantCollector),
+            8 => Ok(Kind::Settle),
+            9 => Ok(Kind::Drain),
+            10 => Ok(Kind::Report),
+            _ => Err(Fault::UnknownKind),
+        }
+    }
+}
+
+/// A record: its kind, and its numbers as they stand in the script. A number that the kind does not have is 0.
 #[derive(Clone, Copy)]
 pub struct Record {
-    /// Which record it is: 1 and 2 lay a line for tickets and for notes, 3 and 4 post a ticket and a note, 5 grants
-    /// a lane, 6 begins a collect, 7 grants the collector, 8 settles the collect, 9 drains the line.
-    pub kind: u16,
+    /// Which record it is.
+    pub kind: Kind,
     /// The lane that a post or a lane's grant is for.
     pub lane: u16,
     /// How many lanes a laying asks for.
@@ -24,7 +71,7 @@ pub struct Record {
     pub place: u32,
     /// A ticket's length.
     pub length: u32,
-    /// Which reading a note is.
+    /// Which reading a note is; a number here, since what it means is tested after the record's place.
     pub tag: u16,
     /// A note's value: a whole number, or the bits of a float.
     pub value: u32,
@@ -34,7 +81,7 @@ pub struct Record {
 
 impl Record {
     /// A record of this kind whose other numbers are 0.
-    fn blank(kind: u16) -> Record
+    fn blank(kind: Kind) -> Record
         ensures { result ≡ blank kind }
     {
         Record {
@@ -57,45 +104,43 @@ impl Record {
 pub fn read_record(input: &[u8]) -> Result<(Record, &[u8]), Fault>
     ensures { elim result [ Ok p ↦ ((record_at input.now ≡ Ok p.0) × (p.1.now ≡ rest_at input.now)) | Err e ↦ record_at input.now ≡ Err e ] }
 {
-    let [l0, l1, k0, k1, ..] = input else {
+    let &[l0, l1, k0, k1, ..] = input else {
         return Err(Fault::CutShort);
     };
-    let len = u16::from_le_bytes([*l0, *l1]) as usize;
-    let kind = u16::from_le_bytes([*k0, *k1]);
+    let len = u16::from_le_bytes([l0, l1]) as usize;
     if len < 4 || input.len() < len {
         return Err(Fault::CutShort);
     }
+    let kind = Kind::try_from(u16::from_le_bytes([k0, k1]))?;
     let record = read_body(kind, &input[4..len])?;
     Ok((record, &input[len..]))
 }
 
 /// The record of this kind whose body is `body`.
-fn read_body(kind: u16, body: &[u8]) -> Result<Record, Fault>
-    ensures { result ≡ body_at kind body.now }
+fn read_body(kind: Kind, body: &[u8]) -> Result<Record, Fault>
+    ensures { result ≡ body_of kind body.now }
 {
     match kind {
-        1 | 2 => read_laying(kind, body),
-        3 => read_ticket_post(body),
-        4 => read_note_post(body),
-        5 => read_lane_grant(body),
-        7 => read_collector_grant(body),
-        6 | 8 | 9 | 10 if body.is_empty() => Ok(Record::blank(kind)),
-        6 | 8 | 9 | 10 => Err(Fault::CutShort),
-        _ => Err(Fault::UnknownKind),
+        Kind::LayTickets | Kind::LayNotes => read_laying(kind, body),
+        Kind::PostTicket => read_ticket_post(body),
+        Kind::PostNote => read_note_post(body),
+        Kind::GrantLane => read_lane_grant(body),
+        Kind::GrantCollector => read_collector_grant(body),
+        Kind::BeginCollect | Kind::Settle | Kind::Drain | Kind::Report => read_bare(kind, body),
     }
 }
 
 /// A laying of this kind: lanes, cells and the start stamp.
-fn read_laying(kind: u16, body: &[u8]) -> Result<Record, Fault>
+fn read_laying(kind: Kind, body: &[u8]) -> Result<Record, Fault>
     ensures { result ≡ if_long 12 body.now (laying kind body.now) }
 {
-    let [n0, n1, c0, c1, s0, s1, s2, s3, s4, s5, s6, s7] = body else {
+    let &[n0, n1, c0, c1, s0, s1, s2, s3, s4, s5, s6, s7] = body else {
         return Err(Fault::CutShort);
     };
     Ok(Record {
-        lanes: u16::from_le_bytes([*n0, *n1]),
-        cells: u16::from_le_bytes([*c0, *c1]),
-        start: u64::from_le_bytes([*s0, *s1, *s2, *s3, *s4, *s5, *s6, *s7]),
+        lanes: u16::from_le_bytes([n0, n1]),
+        cells: u16::from_le_bytes([c0, c1]),
+        start: u64::from_le_bytes([s0, s1, s2, s3, s4, s5, s6, s7]),
         ..Record::blank(kind)
     })
 }
@@ -104,15 +149,15 @@ fn read_laying(kind: u16, body: &[u8]) -> Result<Record, Fault>
 fn read_ticket_post(body: &[u8]) -> Result<Record, Fault>
     ensures { result ≡ if_long 14 body.now (ticket_post body.now) }
 {
-    let [l0, l1, f0, f1, f2, f3, p0, p1, p2, p3, n0, n1, n2, n3] = body else {
+    let &[l0, l1, f0, f1, f2, f3, p0, p1, p2, p3, n0, n1, n2, n3] = body else {
         return Err(Fault::CutShort);
     };
     Ok(Record {
-        lane: u16::from_le_bytes([*l0, *l1]),
-        frame: u32::from_le_bytes([*f0, *f1, *f2, *f3]),
-        place: u32::from_le_bytes([*p0, *p1, *p2, *p3]),
-        length: u32::from_le_bytes([*n0, *n1, *n2, *n3]),
-        ..Record::blank(3)
+        lane: u16::from_le_bytes([l0, l1]),
+        frame: u32::from_le_bytes([f0, f1, f2, f3]),
+        place: u32::from_le_bytes([p0, p1, p2, p3]),
+        length: u32::from_le_bytes([n0, n1, n2, n3]),
+        ..Record::blank(Kind::PostTicket)
     })
 }
 
@@ -120,14 +165,14 @@ fn read_ticket_post(body: &[u8]) -> Result<Record, Fault>
 fn read_note_post(body: &[u8]) -> Result<Record, Fault>
     ensures { result ≡ if_long 8 body.now (note_post body.now) }
 {
-    let [l0, l1, t0, t1, v0, v1, v2, v3] = body else {
+    let &[l0, l1, t0, t1, v0, v1, v2, v3] = body else {
         return Err(Fault::CutShort);
     };
     Ok(Record {
-        lane: u16::from_le_bytes([*l0, *l1]),
-        tag: u16::from_le_bytes([*t0, *t1]),
-        value: u32::from_le_bytes([*v0, *v1, *v2, *v3]),
-        ..Record::blank(4)
+        lane: u16::from_le_bytes([l0, l1]),
+        tag: u16::from_le_bytes([t0, t1]),
+        value: u32::from_le_bytes([v0, v1, v2, v3]),
+        ..Record::blank(Kind::PostNote)
     })
 }
 
@@ -135,13 +180,13 @@ fn read_note_post(body: &[u8]) -> Result<Record, Fault>
 fn read_lane_grant(body: &[u8]) -> Result<Record, Fault>
     ensures { result ≡ if_long 4 body.now (lane_grant body.now) }
 {
-    let [l0, l1, t0, t1] = body else {
+    let &[l0, l1, t0, t1] = body else {
         return Err(Fault::CutShort);
     };
     Ok(Record {
-        lane: u16::from_le_bytes([*l0, *l1]),
-        times: u16::from_le_bytes([*t0, *t1]),
-        ..Record::blank(5)
+        lane: u16::from_le_bytes([l0, l1]),
+        times: u16::from_le_bytes([t0, t1]),
+        ..Record::blank(Kind::GrantLane)
     })
 }
 
@@ -149,11 +194,21 @@ fn read_lane_grant(body: &[u8]) -> Result<Record, Fault>
 fn read_collector_grant(body: &[u8]) -> Result<Record, Fault>
     ensures { result ≡ if_long 2 body.now (collector_grant body.now) }
 {
-    let [t0, t1] = body else {
+    let &[t0, t1] = body else {
         return Err(Fault::CutShort);
     };
     Ok(Record {
-        times: u16::from_le_bytes([*t0, *t1]),
-        ..Record::blank(7)
+        times: u16::from_le_bytes([t0, t1]),
+        ..Record::blank(Kind::GrantCollector)
     })
+}
+
+/// A record of this kind, which has no body.
+fn read_bare(kind: Kind, body: &[u8]) -> Result<Record, Fault>
+    ensures { result ≡ if_long 0 body.now (blank kind) }
+{
+    let [] = body else {
+        return Err(Fault::CutShort);
+    };
+    Ok(Record::blank(kind))
 }

@@ -1,13 +1,13 @@
 //! A whole script: how it begins, and the calls that follow.
 ghost use Rattle.std.specs.Prelude.{◌≡◌, ◌+◌, ◌≤◌, length, IfOk, Some, None, Ok, Err};
 ghost use Rattle.script.specs.Laws.{DrainsOn, KeepsCallsBefore, OneReading, ReadsOn};
-ghost use Rattle.script.specs.Records.{rest_at};
-ghost use Rattle.script.specs.Scripts.{CallsFrom, CallsUpTo, Opens, Stops, after_items, laying_of, next_item, notes, opening, stop_fault, tickets};
+ghost use Rattle.script.specs.Records.{record_at, rest_at};
+ghost use Rattle.script.specs.Scripts.{CallsFrom, CallsUpTo, Opens, Stops, after_items, first_line, laying_of, line_for, next_item, opening, payloads_of};
 
-use crate::call::{Call, Item};
+use crate::call::Call;
 use crate::fault::{Fault, FaultAt};
 use crate::payload::Payload;
-use crate::record::{Record, read_record};
+use crate::record::{Kind, Record, read_record};
 use runs::calls::{DrainingCall, Laying, OpenCall};
 use std::alloc::{AllocError, Global};
 
@@ -20,13 +20,39 @@ const TOO_LONG: FaultAt = FaultAt {
     at: 0,
 };
 
-/// How a script begins: the laying, and the bytes after its record.
+/// What the posts of a script bring.
+#[derive(Clone, Copy, Debug, PartialEq, Eq)]
+pub enum Payloads {
+    /// Tickets.
+    Tickets,
+    /// Notes.
+    Notes,
+}
+
+/// What the posts bring on a line that a record of this kind lays. Another kind is out of place there.
+impl TryFrom<Kind> for Payloads {
+    type Error = Fault;
+
+    ghost try_from_gives = { λ kind payloads. payloads ≡ payloads_of kind };
+
+    fn try_from(kind: Kind) -> Result<Payloads, Fault> {
+        match kind {
+            Kind::LayTickets => Ok(Payloads::Tickets),
+            Kind::LayNotes => Ok(Payloads::Notes),
+            _ => Err(Fault::OutOfPlace),
+        }
+    }
+}
+
+/// How a script begins.
 #[derive(Clone, Copy)]
-pub enum Opened<'a> {
-    /// A line for tickets is laid.
-    Tickets(Laying, &'a [u8]),
-    /// A line for notes is laid.
-    Notes(Laying, &'a [u8]),
+pub struct Opened<'a> {
+    /// What the posts on the line bring.
+    pub payloads: Payloads,
+    /// The numbers that the line is laid with.
+    pub laying: Laying,
+    /// The bytes after the record of the laying.
+    pub rest: &'a [u8],
 }
 
 /// The calls of a script after its laying.
@@ -40,39 +66,18 @@ pub struct Calls<P> {
     pub fault: Option<FaultAt>,
 }
 
-/// The calls of one part of a script, before the drain or after it, and why the part ends.
+/// The calls of one part of a script, before the drain or after it, and how the part ends.
 #[derive(Drop)]
 struct Part<C> {
     calls: Vec<C>,
-    stop: Stop,
-}
-
-/// Why a part of a script ends.
-#[derive(Clone, Copy)]
-enum Stop {
-    /// The script ends.
-    AtEnd,
-    /// The next record drains the line; the bytes behind it start at this place.
-    Drained(usize),
-    /// The next record has this fault.
-    Faulty(FaultAt),
-}
-
-impl Stop {
-    /// The fault that ends the script, if one does.
-    fn fault(self) -> Option<FaultAt>
-        ensures { result ≡ stop_fault self }
-    {
-        match self {
-            Stop::Faulty(fault) => Some(fault),
-            Stop::AtEnd | Stop::Drained(_) => None,
-        }
-    }
+    /// The place at which the bytes behind a drain start; None where the part ends with the script; or the fault of the
+    /// next record.
+    end: Result<Option<usize>, FaultAt>,
 }
 
 /// Reads the laying that a script begins with. A script without bytes has none, and no fault either.
 pub fn open_script(input: &[u8]) -> Result<Option<Opened<'_>>, FaultAt>
-    ensures { elim result [ Err f ↦ opening input.now ≡ Err f | Ok o ↦ elim o [ None ↦ opening input.now ≡ Ok None | Some w ↦ elim w [ Opened.Tickets l s ↦ Opens input.now (tickets l) s.now | Opened.Notes l s ↦ Opens input.now (notes l) s.now ] ] ] }
+    ensures { elim result [ Err f ↦ opening input.now ≡ Err f | Ok o ↦ elim o [ None ↦ opening input.now ≡ Ok None | Some w ↦ Opens input.now (line_for w.payloads w.laying) w.rest.now ] ] }
 {
     if input.len() > LONGEST {
         return Err(TOO_LONG);
@@ -80,17 +85,20 @@ pub fn open_script(input: &[u8]) -> Result<Option<Opened<'_>>, FaultAt>
     if input.is_empty() {
         return Ok(None);
     }
-    match read_record(input) {
-        Ok((record, rest)) => match record.kind {
-            1 => Ok(Some(Opened::Tickets(laying_of(&record), rest))),
-            2 => Ok(Some(Opened::Notes(laying_of(&record), rest))),
-            _ => Err(FaultAt {
-                fault: Fault::OutOfPlace,
-                at: 0,
-            }),
-        },
-        Err(fault) => Err(FaultAt { fault, at: 0 }),
-    }
+    let opened = read_opening(input).map_err(|fault| FaultAt { fault, at: 0 })?;
+    Ok(Some(opened))
+}
+
+/// Reads the laying at the front of `input`.
+fn read_opening(input: &[u8]) -> Result<Opened<'_>, Fault>
+    ensures { elim result [ Ok w ↦ (first_line (record_at input.now) ≡ Ok (line_for w.payloads w.laying)) × (w.rest.now ≡ rest_at input.now) | Err e ↦ first_line (record_at input.now) ≡ Err e ] }
+{
+    let (record, rest) = read_record(input)?;
+    Ok(Opened {
+        payloads: Payloads::try_from(record.kind)?,
+        laying: laying_of(&record),
+        rest,
+    })
 }
 
 /// The numbers that a record lays a line with.
@@ -109,7 +117,7 @@ fn laying_of(record: &Record) -> Laying
 pub fn read_calls<P: Payload>(heap: Global, rest: &[u8], at: usize) -> Result<Calls<P>, AllocError>
     ensures { IfOk result (λ k. CallsFrom P.Payload.brought at rest.now k.before.items (after_items k.after) k.fault) }
 {
-    if rest.len() > LONGEST || at > LONGEST - rest.len() {
+    if at.saturating_add(rest.len()) > LONGEST {
         return Ok(Calls {
             before: Vec::new(heap),
             after: None,
@@ -118,55 +126,53 @@ pub fn read_calls<P: Payload>(heap: Global, rest: &[u8], at: usize) -> Result<Ca
     }
     let open = read_part::<OpenCall<P>>(heap, rest, at)?;
     let before = open.calls;
-    if let Stop::Drained(behind) = open.stop {
-        let draining = read_part::<DrainingCall>(heap, &rest[behind - at..], behind)?;
+    let Ok(Some(behind)) = open.end else {
         return Ok(Calls {
             before,
-            after: Some(draining.calls),
-            fault: draining.stop.fault(),
+            after: None,
+            fault: open.end.err(),
         });
-    }
+    };
+    let draining = read_part::<DrainingCall>(heap, &rest[behind - at..], behind)?;
     Ok(Calls {
         before,
-        after: None,
-        fault: open.stop.fault(),
+        after: Some(draining.calls),
+        fault: draining.end.err(),
     })
 }
 
 /// Reads the calls of one part of a script. The part starts at the place `at` with the first byte of `rest`.
 fn read_part<C: Call>(heap: Global, rest: &[u8], at: usize) -> Result<Part<C>, AllocError>
     requires { at + length rest.now ≤ 60000 }
-    ensures { IfOk result (λ k. CallsUpTo C.Call.item (Stops C.Call.item k.stop) k.calls.items at rest.now) }
+    ensures { IfOk result (λ k. CallsUpTo C.Call.item (Stops C.Call.item k.end) k.calls.items at rest.now) }
 {
     let mut calls = Vec::new(heap);
     let mut unread = rest;
     while !unread.is_empty() {
         match next_item(unread) {
-            Ok((item, behind)) => match item {
-                Item::Call(call) => {
-                    calls.push(call)?;
-                    unread = behind;
-                }
-                Item::Drain => {
-                    let stop = Stop::Drained(at + (rest.len() - behind.len()));
-                    return Ok(Part { calls, stop });
-                }
-            },
+            Ok((Some(call), behind)) => {
+                calls.push(call)?;
+                unread = behind;
+            }
+            Ok((None, behind)) => {
+                let end = Ok(Some(at + (rest.len() - behind.len())));
+                return Ok(Part { calls, end });
+            }
             Err(fault) => {
                 let at = at + (rest.len() - unread.len());
-                let stop = Stop::Faulty(FaultAt { fault, at });
-                return Ok(Part { calls, stop });
+                let end = Err(FaultAt { fault, at });
+                return Ok(Part { calls, end });
             }
         }
     }
     Ok(Part {
         calls,
-        stop: Stop::AtEnd,
+        end: Ok(None),
     })
 }
 
 /// What the first record of `input` says, and the bytes behind that record.
-fn next_item<C: Call>(input: &[u8]) -> Result<(Item<C>, &[u8]), Fault>
+fn next_item<C: Call>(input: &[u8]) -> Result<(Option<C>, &[u8]), Fault>
     ensures { elim result [ Ok p ↦ ((next_item C.Call.item input.now ≡ Ok p.0) × (p.1.now ≡ rest_at input.now)) | Err e ↦ next_item C.Call.item input.now ≡ Err e ] }
 {
     let (record, rest) = read_record(input)?;

@@ -1,7 +1,7 @@
 //! Scripts on the edge of each fault, and two that are read whole.
 use crate::fault::{Fault, FaultAt};
 use crate::payload::{Note, Payload, Ticket};
-use crate::script::{Calls, Opened, open_script, read_calls};
+use crate::script::{Calls, Payloads, open_script, read_calls};
 use runs::calls::{CrewCall, DrainingCall, OpenCall};
 use std::alloc::{AllocError, Global};
 use std::process::Abort;
@@ -32,14 +32,8 @@ const DRAIN: [u8; 4] = [4, 0, 9, 0];
 const REPORT: [u8; 4] = [4, 0, 10, 0];
 
 fn outcome<P: Payload>(read: Calls<P>) -> Outcome {
-    let after = match &read.after {
-        Some(calls) => Some(calls.len()),
-        None => None,
-    };
-    let (number, at) = match read.fault {
-        Some(f) => (f.fault.number(), f.at),
-        None => (0, 0),
-    };
+    let after = read.after.as_ref().map(|calls| calls.len());
+    let (number, at) = read.fault.map_or((0, 0), |f| (f.fault.number(), f.at));
     (read.before.len(), after, number, at)
 }
 
@@ -47,8 +41,10 @@ fn outcome<P: Payload>(read: Calls<P>) -> Outcome {
 fn outcome_of(heap: Global, script: &[u8]) -> Result<Outcome, AllocError> {
     match open_script(script) {
         Ok(None) => Ok((0, None, 0, 0)),
-        Ok(Some(Opened::Tickets(_, rest))) => Ok(outcome::<Ticket>(read_calls(heap, rest, 16)?)),
-        Ok(Some(Opened::Notes(_, rest))) => Ok(outcome::<Note>(read_calls(heap, rest, 16)?)),
+        Ok(Some(opened)) => match opened.payloads {
+            Payloads::Tickets => Ok(outcome::<Ticket>(read_calls(heap, opened.rest, 16)?)),
+            Payloads::Notes => Ok(outcome::<Note>(read_calls(heap, opened.rest, 16)?)),
+        },
         Err(f) => Ok((0, None, f.fault.number(), f.at)),
     }
 }
@@ -270,11 +266,12 @@ fn a_note_has_the_numbers_of_its_record(rt: HostRuntime) -> Result<(), Fail> {
 
 #[test]
 fn a_laying_has_the_numbers_of_its_record(rt: HostRuntime) -> Result<(), Fail> {
-    let Ok(Some(Opened::Notes(laying, []))) = open_script(&[
-        16, 0, 2, 0, 3, 0, 4, 1, 8, 7, 6, 5, 4, 3, 2, 1,
-    ]) else {
-        return Err(Fail::new("not a laying for notes"));
+    let Ok(Some(opened)) = open_script(&[16, 0, 2, 0, 3, 0, 4, 1, 8, 7, 6, 5, 4, 3, 2, 1]) else {
+        return Err(Fail::new("not a laying"));
     };
+    assert_eq!(rt; opened.payloads, Payloads::Notes);
+    assert!(rt; opened.rest.is_empty());
+    let laying = opened.laying;
     assert_eq!(rt;
         (laying.lanes, laying.cells, laying.start),
         (3, 260, 0x102030405060708)

@@ -1,5 +1,6 @@
 -- The text of each line that is printed: what a record is answered with, or the fault that ends the script.
-use Rattle.std.specs.Prelude.{ℕ, List, ◌++◌, Ok, Err, codes, decimal, Result}
+use Rattle.std.specs.Prelude.{ℕ, List, ◌++◌, Some, None, Option, Ok, Err, codes, decimal, Result}
+use Rattle.std.specs.Result.{result_err}
 use Rattle.line.specs.Answers.{refusal_number}
 use Rattle.line.specs.declared.answer.CollectorAnswer.{CollectorAnswer}
 use Rattle.line.specs.declared.answer.CollectorAnswer.TheVariants as collector
@@ -20,6 +21,11 @@ then_number n = codes " " ++ decimal n
 
 abbrev pub refused_line : Refusal → List ℕ
 refused_line r = codes "refused " ++ decimal (refusal_number r)
+
+-- what an accepted call says by `text`, or the refusal; None where `text` says nothing
+abbrev pub or_refused : {T : Type 0} → (T → Option (List ℕ)) → Result T Refusal → Option (List ℕ)
+or_refused text (Ok x) = text x
+or_refused text (Err r) = Some (refused_line r)
 
 -- an accepted call by this word
 abbrev pub done_line : List ℕ → Result (Unit {0}) Refusal → List ℕ
@@ -64,3 +70,15 @@ line_text (Answered (Settle result)) = settled_line result
 line_text (Answered (Report result)) = report_line result
 line_text Draining = codes "draining"
 line_text (Fault fault) = fault_line fault
+
+-- the refusal that a record is answered with
+abbrev pub refusal_of : Line → Option Refusal
+refusal_of (Laid result) = result_err result
+refusal_of (Answered (BeginPost result)) = result_err result
+refusal_of (Answered (GrantLane lane result)) = result_err result
+refusal_of (Answered (BeginCollect result)) = result_err result
+refusal_of (Answered (GrantCollector result)) = result_err result
+refusal_of (Answered (Settle result)) = result_err result
+refusal_of (Answered (Report result)) = result_err result
+refusal_of Draining = None
+refusal_of (Fault fault) = None

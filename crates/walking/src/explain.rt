@@ -33,8 +33,7 @@ impl fmt::Display for Step {
 /// Runs a script, and writes for each record where it starts, what it asks in words, and its line.
 pub fn write_explained<W: Write>(heap: Global, script: &[u8], out: &mut W) -> io::Result<()> {
     let mut at = 0;
-    for line in walk_script(heap, script)?.iter() {
-        let line = *line;
+    for line in walk_script(heap, script)? {
         let (asked, behind) = asked_at(script, at, line);
         let step = Step { at, asked, line };
         writeln!(out, "{step}")?;
@@ -46,9 +45,9 @@ pub fn write_explained<W: Write>(heap: Global, script: &[u8], out: &mut W) -> io
 /// What is asked at the place `at` of a script and answered by this line, and the place behind it.
 fn asked_at(script: &[u8], at: usize, line: Line) -> (Asked, usize) {
     match (line, record_from(script, at)) {
-        (Line::Fault(fault), _) => (Asked::Nothing(fault.fault), at),
-        (_, Ok((record, behind))) => (Asked::Record(record), behind),
-        (_, Err(fault)) => (Asked::Nothing(fault), at),
+        (Line::Fault(fault), _) => (Asked(Err(fault.fault)), at),
+        (_, Ok((record, behind))) => (Asked(Ok(record)), behind),
+        (_, Err(fault)) => (Asked(Err(fault)), at),
     }
 }
 
@@ -56,11 +55,7 @@ fn asked_at(script: &[u8], at: usize, line: Line) -> (Asked, usize) {
 fn record_from(script: &[u8], at: usize) -> Result<(Record, usize), Fault>
     ensures { elim result [ Ok p ↦ ((record_at (drop at script.now) ≡ Ok p.0) × (p.1 ≡ at + two (drop at script.now) 0)) | Err e ↦ record_at (drop at script.now) ≡ Err e ] }
 {
-    if at > script.len() {
-        return Err(Fault::CutShort);
-    }
-    match read_record(&script[at..]) {
-        Ok((record, rest)) => Ok((record, script.len() - rest.len())),
-        Err(fault) => Err(fault),
-    }
+    let unread = script.get(at..).ok_or(Fault::CutShort)?;
+    let (record, rest) = read_record(unread)?;
+    Ok((record, script.len() - rest.len()))
 }

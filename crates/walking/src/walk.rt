@@ -1,11 +1,10 @@
 //! A script run over a line, as the lines that it prints.
 use crate::lines::Line;
 use boards::Table;
-use runs::calls::Laying;
 use runs::left::Run;
 use runs::whole::run_calls;
 use script::payload::{Note, Payload, Ticket};
-use script::script::{Calls, Opened, open_script, read_calls};
+use script::script::{Calls, Opened, Payloads, open_script, read_calls};
 use std::alloc::{AllocError, Global};
 use std::io;
 use std::io::Write;
@@ -18,7 +17,7 @@ const TRAYS: usize = 1041;
 
 /// Runs a script, and writes its lines.
 pub fn write_lines<W: Write>(heap: Global, script: &[u8], out: &mut W) -> io::Result<()> {
-    for line in walk_script(heap, script)?.iter() {
+    for line in walk_script(heap, script)? {
         writeln!(out, "{line}")?;
     }
     Ok(())
@@ -28,38 +27,28 @@ pub fn write_lines<W: Write>(heap: Global, script: &[u8], out: &mut W) -> io::Re
 pub fn walk_script(heap: Global, script: &[u8]) -> Result<Vec<Line>, AllocError> {
     match open_script(script) {
         Ok(None) => Ok(Vec::new(heap)),
-        Ok(Some(Opened::Tickets(laying, rest))) => {
-            let blank = Ticket {
-                frame: 0,
-                place: 0,
-                length: 0,
-            };
-            walk_line(heap, laying, rest, blank)
-        }
-        Ok(Some(Opened::Notes(laying, rest))) => walk_line(heap, laying, rest, Note::FaultCode(0)),
-        Err(fault) => {
-            let mut lines = Vec::new(heap);
-            lines.push(Line::Fault(fault))?;
-            Ok(lines)
-        }
+        Ok(Some(opened)) => match opened.payloads {
+            Payloads::Tickets => walk_line(heap, opened, Ticket::default()),
+            Payloads::Notes => walk_line(heap, opened, Note::FaultCode(0)),
+        },
+        Err(fault) => Ok(vec![in heap; Line::Fault(fault)]?),
     }
 }
 
-/// Runs the records after the laying over a table, with `blank` in every tray at first.
+/// Lays a line and runs the records after its laying over a table, with `blank` in every tray at first.
 fn walk_line<P: Payload>(
     heap: Global,
-    laying: Laying,
-    rest: &[u8],
+    opened: Opened<'_>,
     blank: P,
 ) -> Result<Vec<Line>, AllocError> {
-    let calls: Calls<P> = read_calls(heap, rest, AFTER_LAYING)?;
-    let mut trays = filled_trays(heap, blank)?;
+    let calls: Calls<P> = read_calls(heap, opened.rest, AFTER_LAYING)?;
+    let mut trays = vec![in heap; blank; TRAYS]?;
     let mut table = Table::new();
     let run = run_calls(
         heap,
         &mut table,
         trays.as_mut_slice(),
-        laying,
+        opened.laying,
         calls.before.as_slice(),
         &calls.after,
     )?;
@@ -70,27 +59,13 @@ fn walk_line<P: Payload>(
     Ok(lines)
 }
 
-/// As many trays as any line takes up, all with the same payload.
-fn filled_trays<P: Copy>(heap: Global, blank: P) -> Result<Vec<P>, AllocError> {
-    let mut trays = Vec::new(heap);
-    for _ in 0..TRAYS {
-        trays.push(blank)?;
-    }
-    Ok(trays)
-}
-
 /// One line for each record that was performed.
 fn lines_of(heap: Global, run: &Run) -> Result<Vec<Line>, AllocError> {
-    let mut lines = Vec::new(heap);
-    lines.push(Line::Laid(run.laid))?;
-    for answer in run.before.iter() {
-        lines.push(Line::Answered(*answer))?;
-    }
+    let mut lines = vec![in heap; Line::Laid(run.laid)]?;
+    lines.extend(run.before.iter().map(|answer| Line::Answered(*answer)))?;
     if let Some(later) = &run.after {
         lines.push(Line::Draining)?;
-        for answer in later.iter() {
-            lines.push(Line::Answered(*answer))?;
-        }
+        lines.extend(later.iter().map(|answer| Line::Answered(*answer)))?;
     }
     Ok(lines)
 }

@@ -3,24 +3,19 @@ use crate::lines::Line;
 use line::answer::{LaneAnswer, Refusal};
 use runs::answers::Answer;
 use script::fault::Fault;
-use script::payload::{Note, Payload};
-use script::record::Record;
+use script::payload::{Note, Payload, Ticket};
+use script::record::{Kind, Record};
 use std::fmt;
 
-/// What is asked at a place of a script.
+/// What is asked at a place of a script: what this record asks; or nothing, since the record or the script has a fault.
 #[derive(Clone, Copy)]
-pub enum Asked {
-    /// What this record asks.
-    Record(Record),
-    /// Nothing, since the record or the script has this fault.
-    Nothing(Fault),
-}
+pub struct Asked(pub Result<Record, Fault>);
 
 impl fmt::Display for Asked {
     fn fmt<W: fmt::Write>(&self, f: &mut fmt::Formatter<W>) -> fmt::Result {
-        match *self {
-            Asked::Record(record) => show_record(&record, f),
-            Asked::Nothing(fault) => show_fault(fault, f),
+        match &self.0 {
+            Ok(record) => show_record(record, f),
+            Err(fault) => write!(f, "{fault}"),
         }
     }
 }
@@ -29,17 +24,16 @@ fn show_record<W: fmt::Write>(record: &Record, f: &mut fmt::Formatter<W>) -> fmt
     let lane = record.lane;
     let times = Count(record.times, "time");
     match record.kind {
-        1 => show_laying("tickets", record, f),
-        2 => show_laying("notes", record, f),
-        3 => show_ticket_post(record, f),
-        4 => show_note_post(record, f),
-        5 => write!(f, "grant lane {lane}, at most {times}"),
-        6 => write!(f, "begin a collect"),
-        7 => write!(f, "grant the collector, at most {times}"),
-        8 => write!(f, "settle the collect"),
-        9 => write!(f, "drain the crew"),
-        10 => write!(f, "report both totals"),
-        _ => show_fault(Fault::UnknownKind, f),
+        Kind::LayTickets => show_laying("tickets", record, f),
+        Kind::LayNotes => show_laying("notes", record, f),
+        Kind::PostTicket => show_post::<Ticket, W>(record, f),
+        Kind::PostNote => show_post::<Note, W>(record, f),
+        Kind::GrantLane => write!(f, "grant lane {lane}, at most {times}"),
+        Kind::BeginCollect => write!(f, "begin a collect"),
+        Kind::GrantCollector => write!(f, "grant the collector, at most {times}"),
+        Kind::Settle => write!(f, "settle the collect"),
+        Kind::Drain => write!(f, "drain the crew"),
+        Kind::Report => write!(f, "report both totals"),
     }
 }
 
@@ -57,35 +51,15 @@ fn show_laying<W: fmt::Write>(
     )
 }
 
-fn show_ticket_post<W: fmt::Write>(record: &Record, f: &mut fmt::Formatter<W>) -> fmt::Result {
+/// A post: its lane, and what it brings.
+fn show_post<P: Payload + fmt::Display, W: fmt::Write>(
+    record: &Record,
+    f: &mut fmt::Formatter<W>,
+) -> fmt::Result {
     let lane = record.lane;
-    let frame = record.frame;
-    let place = record.place;
-    let length = record.length;
-    write!(
-        f,
-        "post on lane {lane}: frame {frame}, place {place}, length {length}"
-    )
-}
-
-fn show_note_post<W: fmt::Write>(record: &Record, f: &mut fmt::Formatter<W>) -> fmt::Result {
-    let lane = record.lane;
-    match Note::of_record(record) {
-        Ok(Note::Temperature(value)) => write!(f, "post on lane {lane}: temperature {value}"),
-        Ok(Note::BiasVoltage(value)) => write!(f, "post on lane {lane}: bias voltage {value}"),
-        Ok(Note::DarkLevel(value)) => write!(f, "post on lane {lane}: mean dark level {value}"),
-        Ok(Note::FaultCode(code)) => write!(f, "post on lane {lane}: fault code {code}"),
-        Err(fault) => show_fault(fault, f),
-    }
-}
-
-fn show_fault<W: fmt::Write>(fault: Fault, f: &mut fmt::Formatter<W>) -> fmt::Result {
-    match fault {
-        Fault::CutShort => write!(f, "a record cut short or of wrong length"),
-        Fault::UnknownKind => write!(f, "a record of unknown kind"),
-        Fault::OutOfPlace => write!(f, "a record whose kind is out of place"),
-        Fault::FieldNotAllowed => write!(f, "a record with a field that is not allowed"),
-        Fault::TooLong => write!(f, "a script of more than 60,000 bytes"),
+    match P::of_record(record) {
+        Ok(payload) => write!(f, "post on lane {lane}: {payload}"),
+        Err(fault) => write!(f, "{fault}"),
     }
 }
 
@@ -108,20 +82,17 @@ pub fn cause(line: Line) -> Option<&'static str> {
     match line {
         Line::Answered(
             Answer::GrantLane {
-                lane: _,
-                result: Ok(LaneAnswer::Full { grants: _ }),
+                result: Ok(LaneAnswer::Full { .. }),
+                ..
             },
-        ) => { Some("the lane is full") }
+        ) => Some("the lane is full"),
         Line::Answered(
             Answer::GrantLane {
-                lane: _,
-                result: Ok(LaneAnswer::UsedUp { grants: _ }),
+                result: Ok(LaneAnswer::UsedUp { .. }),
+                ..
             },
-        ) => { Some("the stamps are used up") }
-        _ => match line.refusal() {
-            Some(refusal) => Some(refusal_cause(refusal)),
-            None => None,
-        },
+        ) => Some("the stamps are used up"),
+        _ => line.refusal().map(refusal_cause),
     }
 }
 
