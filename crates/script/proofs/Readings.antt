@@ -1,21 +1,17 @@
 -- Reading the items of one part of a script, one after another.
 use Rattle.std.proofs.Common.{◌≡◌, ℕ, ◌+◌, ◌-◌, ◌<◌, ◌≤◌, List, [], ◌∷◌, ◌++◌, length, drop, Some, None, Option, Ok, Err, Result, sym, refl, ap, ◌∙◌, subst, arith, length-drop}
+use Rattle.std.proofs.lemmas.Bool.Decides.{nat_tests}
 use Rattle.std.proofs.lemmas.List.{drop-drop}
 use Rattle.script.specs.declared.fault.Fault.{Fault}
 use Rattle.script.specs.declared.fault.FaultAt.{FaultAt}
 use Rattle.script.specs.declared.record.Record.{Record}
-use Rattle.script.specs.Records.{record_at, rest_at, two}
-use Rattle.script.specs.Scripts.{CallsUpTo, Stops, next_item, said}
-use Rattle.script.proofs.InBytes.{record_within}
+use Rattle.script.specs.Records.{rest_at, two}
+use Rattle.script.specs.Scripts.{CallsUpTo, Stops, next_item}
 
 module _ {C : Type 0} (item_of : Record → Result (Option C) Fault) where
-  was_read : (x : Result Record Fault) (i : Option C) → said item_of x ≡ Ok i → (r : Record) × (x ≡ Ok r)
-  was_read (Ok r) i h = (r, refl)
-  was_read (Err f) i h = cc
-
   -- a record whose item is read lies whole in its bytes
   pub item_within : (bs : List ℕ) (i : Option C) → next_item item_of bs ≡ Ok i → (4 ≤ length bs) × (4 ≤ two bs 0) × (two bs 0 ≤ length bs)
-  item_within bs i h = let p = was_read (record_at bs) i h in record_within bs p.0 p.1
+  item_within bs i h = grind (arith, nat_tests)
 
   -- the bytes `bs` at place `at` are the end of `xs`, which starts at `from`
   abbrev pub EndOf : ℕ → List ℕ → ℕ → List ℕ → Type 0

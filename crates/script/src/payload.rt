@@ -109,6 +109,7 @@ fn note_of(tag: u16, bits: u32) -> Result<Note, Fault>
 }
 
 /// The measured value with these bits, if it is a finite number: its exponent bits are not all ones.
+#[tactic(auto, using(crate::proofs::Floats::no_nan))]
 fn measured(bits: u32) -> Result<f32, Fault>
     ensures { result ≡ measured bits }
 {

@@ -23,6 +23,7 @@ impl Line {
     pub fn refusal(self) -> Option<Refusal>
         ensures { result ≡ refusal_of self }
     {
+        // Results of different types, so each has a case of its own.
         match self {
             Line::Laid(result) => result.err(),
             Line::Answered(Answer::BeginPost(result)) => result.err(),

@@ -8,6 +8,7 @@ use script::record::{Kind, Record};
 use std::fmt;
 
 /// What is asked at a place of a script: what this record asks; or nothing, since the record or the script has a fault.
+/// A type of its own, so that it has a `Display`.
 #[derive(Clone, Copy)]
 pub struct Asked(pub Result<Record, Fault>);
 
@@ -96,7 +97,7 @@ pub fn cause(line: Line) -> Option<&'static str> {
     }
 }
 
-/// Why a call is refused so.
+/// Why a call is refused so. `Refusal` is a type of `line`, so these words are no `Display` of it.
 fn refusal_cause(refusal: Refusal) -> &'static str {
     match refusal {
         Refusal::BadShape => "lanes outside 1 to 16, or cells outside 2 to 64",
