@@ -7,10 +7,11 @@ use line::collector::{CollectStage, Collected, Collector, Kept};
 
 /// The collector as numbers. A number that the stage does not have is 0.
 #[repr(C)]
-#[derive(Clone, Copy)]
+#[derive(Clone, Copy, Default)]
 pub struct PlainCollector {
     /// What the next grant does: 1 to 8, in the order of a collect's grants; 9 and 10, the collect ended as empty and as
     /// delivered; everything else is idle.
+    // A number, with what the stage carries in fields beside it: C has no enum that carries values.
     pub stage: u8,
     /// 2 in the second try, 1 in the first.
     pub attempt: u8,
@@ -34,19 +35,131 @@ pub struct PlainCollector {
     pub grants: u64,
 }
 
-impl PlainCollector {
-    /// The collector that these numbers mean.
-    pub fn collector(&self) -> Collector
-        ensures { result ≡ collector_of self.now }
-    {
+// The numbers of the stages.
+const SCAN_FIRST: u8 = 1;
+
+const SCAN_SECOND: u8 = 2;
+
+const FETCH: u8 = 3;
+
+const FREE: u8 = 4;
+
+const SEE_SLOT: u8 = 5;
+
+const SEE_TAIL: u8 = 6;
+
+const SEE_FRONT: u8 = 7;
+
+const REFRESH_SLOT: u8 = 8;
+
+const ENDED_EMPTY: u8 = 9;
+
+const ENDED_DELIVERED: u8 = 10;
+
+/// The collector that the numbers mean.
+impl From<PlainCollector> for Collector {
+    ghost from_gives = { λ plain collector. collector ≡ collector_of plain };
+
+    fn from(plain: PlainCollector) -> Collector {
         Collector {
-            stage: self.stage_of(),
-            grants: self.grants,
+            stage: plain.stage_of(),
+            grants: plain.grants,
         }
     }
+}
 
-    fn stage_of(&self) -> CollectStage
-        ensures { result ≡ collect_stage_of self.now }
+/// The numbers of a collector.
+impl From<Collector> for PlainCollector {
+    ghost from_gives = { λ collector plain. plain ≡ plain_collector collector };
+
+    fn from(collector: Collector) -> PlainCollector {
+        let idle = PlainCollector {
+            grants: collector.grants,
+            ..PlainCollector::default()
+        };
+        match collector.stage {
+            CollectStage::Idle => idle,
+            CollectStage::ScanFirst { next, kept } => PlainCollector {
+                stage: SCAN_FIRST,
+                next,
+                ..idle.keeping(kept)
+            },
+            CollectStage::ScanSecond { next, bound, kept } => PlainCollector {
+                stage: SCAN_SECOND,
+                next,
+                bound,
+                ..idle.keeping(kept)
+            },
+            CollectStage::Fetch { kept } => PlainCollector {
+                stage: FETCH,
+                ..idle.keeping(kept)
+            },
+            CollectStage::Free { kept } => PlainCollector {
+                stage: FREE,
+                ..idle.keeping(kept)
+            },
+            CollectStage::SeeSlot { attempt, kept } => PlainCollector {
+                stage: SEE_SLOT,
+                attempt: attempt_number(attempt),
+                ..idle.keeping(kept)
+            },
+            CollectStage::SeeTail {
+                attempt,
+                kept,
+                seen,
+            } => PlainCollector {
+                stage: SEE_TAIL,
+                attempt: attempt_number(attempt),
+                seen,
+                ..idle.keeping(kept)
+            },
+            CollectStage::SeeFront {
+                attempt,
+                kept,
+                seen,
+            } => PlainCollector {
+                stage: SEE_FRONT,
+                attempt: attempt_number(attempt),
+                seen,
+                ..idle.keeping(kept)
+            },
+            CollectStage::RefreshSlot {
+                attempt,
+                kept,
+                seen,
+                fresh,
+            } => PlainCollector {
+                stage: REFRESH_SLOT,
+                attempt: attempt_number(attempt),
+                seen,
+                fresh,
+                ..idle.keeping(kept)
+            },
+            CollectStage::Ended(Collected::Empty { grants }) => PlainCollector {
+                stage: ENDED_EMPTY,
+                ended_grants: grants,
+                ..idle
+            },
+            CollectStage::Ended(
+                Collected::Delivered {
+                    lane,
+                    stamp,
+                    grants,
+                },
+            ) => PlainCollector {
+                stage: ENDED_DELIVERED,
+                stamp,
+                ended_lane: lane,
+                ended_grants: grants,
+                ..idle
+            },
+        }
+    }
+}
+
+impl PlainCollector {
+    fn stage_of(self) -> CollectStage
+        ensures { result ≡ collect_stage_of self }
     {
         let attempt = attempt_of(self.attempt);
         let next = self.next;
@@ -59,29 +172,29 @@ impl PlainCollector {
         let fresh = self.fresh;
         let grants = self.ended_grants;
         match self.stage {
-            1 => CollectStage::ScanFirst { next, kept },
-            2 => CollectStage::ScanSecond { next, bound, kept },
-            3 => CollectStage::Fetch { kept },
-            4 => CollectStage::Free { kept },
-            5 => CollectStage::SeeSlot { attempt, kept },
-            6 => CollectStage::SeeTail {
+            SCAN_FIRST => CollectStage::ScanFirst { next, kept },
+            SCAN_SECOND => CollectStage::ScanSecond { next, bound, kept },
+            FETCH => CollectStage::Fetch { kept },
+            FREE => CollectStage::Free { kept },
+            SEE_SLOT => CollectStage::SeeSlot { attempt, kept },
+            SEE_TAIL => CollectStage::SeeTail {
                 attempt,
                 kept,
                 seen,
             },
-            7 => CollectStage::SeeFront {
+            SEE_FRONT => CollectStage::SeeFront {
                 attempt,
                 kept,
                 seen,
             },
-            8 => CollectStage::RefreshSlot {
+            REFRESH_SLOT => CollectStage::RefreshSlot {
                 attempt,
                 kept,
                 seen,
                 fresh,
             },
-            9 => CollectStage::Ended(Collected::Empty { grants }),
-            10 => CollectStage::Ended(Collected::Delivered {
+            ENDED_EMPTY => CollectStage::Ended(Collected::Empty { grants }),
+            ENDED_DELIVERED => CollectStage::Ended(Collected::Delivered {
                 lane: self.ended_lane,
                 stamp: self.stamp,
                 grants,
@@ -90,105 +203,9 @@ impl PlainCollector {
         }
     }
 
-    /// The numbers of a collector.
-    pub fn of(collector: Collector) -> PlainCollector
-        ensures { result ≡ plain_collector collector }
-    {
-        let idle = PlainCollector {
-            stage: 0,
-            attempt: 0,
-            next: 0,
-            bound: 0,
-            kept_lane: 0,
-            stamp: 0,
-            seen: 0,
-            fresh: 0,
-            ended_lane: 0,
-            ended_grants: 0,
-            grants: collector.grants,
-        };
-        match collector.stage {
-            CollectStage::Idle => idle,
-            CollectStage::ScanFirst { next, kept } => PlainCollector {
-                stage: 1,
-                next,
-                ..idle.keeping(kept)
-            },
-            CollectStage::ScanSecond { next, bound, kept } => PlainCollector {
-                stage: 2,
-                next,
-                bound,
-                ..idle.keeping(kept)
-            },
-            CollectStage::Fetch { kept } => PlainCollector {
-                stage: 3,
-                ..idle.keeping(kept)
-            },
-            CollectStage::Free { kept } => PlainCollector {
-                stage: 4,
-                ..idle.keeping(kept)
-            },
-            CollectStage::SeeSlot { attempt, kept } => PlainCollector {
-                stage: 5,
-                attempt: attempt_number(attempt),
-                ..idle.keeping(kept)
-            },
-            CollectStage::SeeTail {
-                attempt,
-                kept,
-                seen,
-            } => PlainCollector {
-                stage: 6,
-                attempt: attempt_number(attempt),
-                seen,
-                ..idle.keeping(kept)
-            },
-            CollectStage::SeeFront {
-                attempt,
-                kept,
-                seen,
-            } => PlainCollector {
-                stage: 7,
-                attempt: attempt_number(attempt),
-                seen,
-                ..idle.keeping(kept)
-            },
-            CollectStage::RefreshSlot {
-                attempt,
-                kept,
-                seen,
-                fresh,
-            } => PlainCollector {
-                stage: 8,
-                attempt: attempt_number(attempt),
-                seen,
-                fresh,
-                ..idle.keeping(kept)
-            },
-            CollectStage::Ended(Collected::Empty { grants }) => PlainCollector {
-                stage: 9,
-                ended_grants: grants,
-                ..idle
-            },
-            CollectStage::Ended(
-                Collected::Delivered {
-                    lane,
-                    stamp,
-                    grants,
-                },
-            ) => PlainCollector {
-                stage: 10,
-                stamp,
-                ended_lane: lane,
-                ended_grants: grants,
-                ..idle
-            },
-        }
-    }
-
     /// The same with the lane and stamp that were kept.
     fn keeping(self, kept: Kept) -> PlainCollector
-        ensures { result ≡ record { stage = self.stage; attempt = self.attempt; next = self.next; bound = self.bound; kept_lane = kept.lane; stamp = kept.stamp; seen = self.seen; fresh = self.fresh; ended_lane = self.ended_lane; ended_grants = self.ended_grants; grants = self.grants } }
+        ensures { result ≡ record self { kept_lane = kept.lane; stamp = kept.stamp } }
     {
         PlainCollector {
             kept_lane: kept.lane,

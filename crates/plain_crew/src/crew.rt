@@ -1,15 +1,16 @@
 //! A whole crew as plain numbers.
-ghost use Rattle.std.specs.Prelude.{◌≡◌, map, length};
+ghost use Rattle.std.specs.Prelude.{◌≡◌};
 ghost use Rattle.plain_crew.specs.Crews.{core_of, plain_crew, NumbersMeanTheirCrew};
-ghost use Rattle.plain_crew.specs.Lanes.{lane_of, plain_lane};
 
 use crate::collector::PlainCollector;
 use crate::lane::PlainLane;
 use line::access::Shape;
+use line::collector::Collector;
 use line::crew::Core;
-use line::lane::{LaneRow, Stage};
+use line::lane::LaneRow;
 
 /// What a crew keeps, as numbers. A crew that was never laid is all zeros.
+// Laid out as `cline_crew` of include/cline.h: whole arrays with a count, and a number for a `bool`, since C may write any byte.
 #[repr(C)]
 #[derive(Clone, Copy)]
 pub struct PlainCrew {
@@ -29,83 +30,47 @@ pub struct PlainCrew {
     pub delivered: u64,
 }
 
-impl PlainCrew {
-    /// What the crew keeps that these numbers mean.
-    pub fn core(&self) -> Core
-        ensures { result ≡ core_of self.now }
-    {
+/// What the crew keeps that the numbers mean.
+impl From<PlainCrew> for Core {
+    ghost from_gives = { λ plain core. core ≡ core_of plain };
+
+    fn from(plain: PlainCrew) -> Core {
+        let heads = plain.heads;
         Core {
             shape: Shape {
-                lanes: self.lanes,
-                cells: self.cells,
+                lanes: plain.lanes,
+                cells: plain.cells,
             },
-            rows: rows_of(&self.rows),
-            heads: self.heads,
-            collector: self.collector.collector(),
-            posted: self.posted,
-            delivered: self.delivered,
-            draining: self.draining != 0,
+            rows: plain.rows.map(LaneRow::from),
+            heads,
+            collector: Collector::from(plain.collector),
+            posted: plain.posted,
+            delivered: plain.delivered,
+            draining: plain.draining != 0,
         }
     }
+}
 
-    /// The numbers of what a crew keeps.
-    pub fn of(core: Core) -> PlainCrew
-        ensures { result ≡ plain_crew core }
-    {
+/// The numbers of what a crew keeps.
+impl From<Core> for PlainCrew {
+    ghost from_gives = { λ core plain. plain ≡ plain_crew core };
+
+    fn from(core: Core) -> PlainCrew {
+        let heads = core.heads;
         PlainCrew {
             lanes: core.shape.lanes,
             cells: core.shape.cells,
-            draining: if core.draining { 1 } else { 0 },
-            heads: core.heads,
-            rows: plain_rows(&core.rows),
-            collector: PlainCollector::of(core.collector),
+            draining: u8::from(core.draining),
+            heads,
+            rows: core.rows.map(PlainLane::from),
+            collector: PlainCollector::from(core.collector),
             posted: core.posted,
             delivered: core.delivered,
         }
     }
 }
 
-/// The rows that these numbers mean.
-fn rows_of(lanes: &[PlainLane; 16]) -> [LaneRow; 16]
-    ensures { result ≡ map lane_of lanes.now }
-{
-    let blank = LaneRow {
-        cells: 0,
-        tail: 0,
-        stage: Stage::AtRest,
-        grants: 0,
-    };
-    let mut rows = [blank; 16];
-    for i in 0..16 {
-        rows[i] = lanes[i].row();
-    }
-    rows
-}
-
-/// The numbers of the rows.
-fn plain_rows(rows: &[LaneRow; 16]) -> [PlainLane; 16]
-    ensures { result ≡ map plain_lane rows.now }
-{
-    let blank = PlainLane {
-        cells: 0,
-        tail: 0,
-        stage: 0,
-        attempt: 0,
-        head: 0,
-        stamp: 0,
-        seen: 0,
-        grants: 0,
-    };
-    let mut lanes = [blank; 16];
-    for i in 0..16 {
-        lanes[i] = PlainLane::of(rows[i]);
-    }
-    lanes
-}
-
 /// A crew that was put away as numbers is the crew that they mean; so nothing is lost.
-pub fn numbers_mean_their_crew() -> u8
+pub fn numbers_mean_their_crew()
     ensures { NumbersMeanTheirCrew }
-{
-    0
-}
+{}

@@ -6,13 +6,14 @@ use line::lane::{Attempt, LaneRow, Stage};
 
 /// A row of the crew as numbers. A number that the stage does not have is 0.
 #[repr(C)]
-#[derive(Clone, Copy)]
+#[derive(Clone, Copy, Default)]
 pub struct PlainLane {
     /// How many cells the lane has.
     pub cells: u8,
     /// The crew's copy of the lane's tail.
     pub tail: u8,
     /// What the next grant does: 1 to 9, in the order of a post's grants; everything else is at rest.
+    // A number, with what the stage carries in fields beside it: C has no enum that carries values.
     pub stage: u8,
     /// 2 in the second try, 1 in the first.
     pub attempt: u8,
@@ -26,6 +27,157 @@ pub struct PlainLane {
     pub grants: u64,
 }
 
+// The numbers of the stages.
+const TEST_SPACE: u8 = 1;
+
+const TAKE_STAMP: u8 = 2;
+
+const FILL_CELL: u8 = 3;
+
+const MARK_CELL: u8 = 4;
+
+const PUBLISH: u8 = 5;
+
+const LOOK: u8 = 6;
+
+const LOAD_HEAD: u8 = 7;
+
+const LOAD_FRONT: u8 = 8;
+
+const SWAP_SLOT: u8 = 9;
+
+/// The row that the numbers mean.
+impl From<PlainLane> for LaneRow {
+    ghost from_gives = { λ plain row. row ≡ lane_of plain };
+
+    fn from(plain: PlainLane) -> LaneRow {
+        LaneRow {
+            cells: plain.cells,
+            tail: plain.tail,
+            stage: plain.stage_of(),
+            grants: plain.grants,
+        }
+    }
+}
+
+/// The numbers of a row.
+impl From<LaneRow> for PlainLane {
+    ghost from_gives = { λ row plain. plain ≡ plain_lane row };
+
+    fn from(row: LaneRow) -> PlainLane {
+        let resting = PlainLane {
+            cells: row.cells,
+            tail: row.tail,
+            grants: row.grants,
+            ..PlainLane::default()
+        };
+        match row.stage {
+            Stage::AtRest => resting,
+            Stage::TestSpace => PlainLane {
+                stage: TEST_SPACE,
+                ..resting
+            },
+            Stage::TakeStamp => PlainLane {
+                stage: TAKE_STAMP,
+                ..resting
+            },
+            Stage::FillCell { stamp } => PlainLane {
+                stage: FILL_CELL,
+                stamp,
+                ..resting
+            },
+            Stage::MarkCell { stamp } => PlainLane {
+                stage: MARK_CELL,
+                stamp,
+                ..resting
+            },
+            Stage::Publish { stamp } => PlainLane {
+                stage: PUBLISH,
+                stamp,
+                ..resting
+            },
+            Stage::Look { attempt, stamp } => PlainLane {
+                stage: LOOK,
+                attempt: attempt_number(attempt),
+                stamp,
+                ..resting
+            },
+            Stage::LoadHead {
+                attempt,
+                stamp,
+                seen,
+            } => PlainLane {
+                stage: LOAD_HEAD,
+                attempt: attempt_number(attempt),
+                stamp,
+                seen,
+                ..resting
+            },
+            Stage::LoadFront {
+                attempt,
+                stamp,
+                seen,
+                head,
+            } => PlainLane {
+                stage: LOAD_FRONT,
+                attempt: attempt_number(attempt),
+                head,
+                stamp,
+                seen,
+                ..resting
+            },
+            Stage::SwapSlot {
+                attempt,
+                stamp,
+                seen,
+            } => PlainLane {
+                stage: SWAP_SLOT,
+                attempt: attempt_number(attempt),
+                stamp,
+                seen,
+                ..resting
+            },
+        }
+    }
+}
+
+impl PlainLane {
+    fn stage_of(self) -> Stage
+        ensures { result ≡ stage_of self }
+    {
+        let attempt = attempt_of(self.attempt);
+        let stamp = self.stamp;
+        let seen = self.seen;
+        let head = self.head;
+        match self.stage {
+            TEST_SPACE => Stage::TestSpace,
+            TAKE_STAMP => Stage::TakeStamp,
+            FILL_CELL => Stage::FillCell { stamp },
+            MARK_CELL => Stage::MarkCell { stamp },
+            PUBLISH => Stage::Publish { stamp },
+            LOOK => Stage::Look { attempt, stamp },
+            LOAD_HEAD => Stage::LoadHead {
+                attempt,
+                stamp,
+                seen,
+            },
+            LOAD_FRONT => Stage::LoadFront {
+                attempt,
+                stamp,
+                seen,
+                head,
+            },
+            SWAP_SLOT => Stage::SwapSlot {
+                attempt,
+                stamp,
+                seen,
+            },
+            _ => Stage::AtRest,
+        }
+    }
+}
+
+// Two functions, and no `From`: a conversion between two types of elsewhere can't stand here.
 /// The number of a try.
 pub(crate) fn attempt_number(attempt: Attempt) -> u8
     ensures { result ≡ attempt_number attempt }
@@ -43,130 +195,5 @@ pub(crate) fn attempt_of(number: u8) -> Attempt
     match number {
         2 => Attempt::Second,
         _ => Attempt::First,
-    }
-}
-
-impl PlainLane {
-    /// The row that these numbers mean.
-    pub fn row(&self) -> LaneRow
-        ensures { result ≡ lane_of self.now }
-    {
-        LaneRow {
-            cells: self.cells,
-            tail: self.tail,
-            stage: self.stage_of(),
-            grants: self.grants,
-        }
-    }
-
-    fn stage_of(&self) -> Stage
-        ensures { result ≡ stage_of self.now }
-    {
-        let attempt = attempt_of(self.attempt);
-        let stamp = self.stamp;
-        let seen = self.seen;
-        let head = self.head;
-        match self.stage {
-            1 => Stage::TestSpace,
-            2 => Stage::TakeStamp,
-            3 => Stage::FillCell { stamp },
-            4 => Stage::MarkCell { stamp },
-            5 => Stage::Publish { stamp },
-            6 => Stage::Look { attempt, stamp },
-            7 => Stage::LoadHead {
-                attempt,
-                stamp,
-                seen,
-            },
-            8 => Stage::LoadFront {
-                attempt,
-                stamp,
-                seen,
-                head,
-            },
-            9 => Stage::SwapSlot {
-                attempt,
-                stamp,
-                seen,
-            },
-            _ => Stage::AtRest,
-        }
-    }
-
-    /// The numbers of a row.
-    pub fn of(row: LaneRow) -> PlainLane
-        ensures { result ≡ plain_lane row }
-    {
-        let plain = PlainLane {
-            cells: row.cells,
-            tail: row.tail,
-            stage: 0,
-            attempt: 0,
-            head: 0,
-            stamp: 0,
-            seen: 0,
-            grants: row.grants,
-        };
-        match row.stage {
-            Stage::AtRest => plain,
-            Stage::TestSpace => PlainLane { stage: 1, ..plain },
-            Stage::TakeStamp => PlainLane { stage: 2, ..plain },
-            Stage::FillCell { stamp } => PlainLane {
-                stage: 3,
-                stamp,
-                ..plain
-            },
-            Stage::MarkCell { stamp } => PlainLane {
-                stage: 4,
-                stamp,
-                ..plain
-            },
-            Stage::Publish { stamp } => PlainLane {
-                stage: 5,
-                stamp,
-                ..plain
-            },
-            Stage::Look { attempt, stamp } => PlainLane {
-                stage: 6,
-                attempt: attempt_number(attempt),
-                stamp,
-                ..plain
-            },
-            Stage::LoadHead {
-                attempt,
-                stamp,
-                seen,
-            } => PlainLane {
-                stage: 7,
-                attempt: attempt_number(attempt),
-                stamp,
-                seen,
-                ..plain
-            },
-            Stage::LoadFront {
-                attempt,
-                stamp,
-                seen,
-                head,
-            } => PlainLane {
-                stage: 8,
-                attempt: attempt_number(attempt),
-                head,
-                stamp,
-                seen,
-                ..plain
-            },
-            Stage::SwapSlot {
-                attempt,
-                stamp,
-                seen,
-            } => PlainLane {
-                stage: 9,
-                attempt: attempt_number(attempt),
-                stamp,
-                seen,
-                ..plain
-            },
-        }
     }
 }
