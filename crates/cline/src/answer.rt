@@ -1,12 +1,14 @@
 //! Answers as a C program gets them: a number, and the values that come with it.
-ghost use Rattle.std.specs.Prelude.{◌≡◌, ◌≤◌};
-ghost use Rattle.line.specs.Answers.{collected_told, told_by, told_collector, told_done, told_fill, told_lane, told_totals};
-ghost use Rattle.cline.specs.Answers.{answer_of, refused};
+ghost use Rattle.std.specs.Prelude.{◌≡◌, ℕ, [], ◌∷◌};
+ghost use Rattle.line.specs.Answers.{Told, told, told_by, lane_told, collected_told, collector_told};
+ghost use Rattle.cline.specs.Answers.{answer_of, refused_number};
 
 use line::answer::{CollectorAnswer, LaneAnswer, Refusal, Totals};
 use line::collector::Collected;
+use script::fault::Fault;
 
 /// The number of an answer, and its values; those from `count` on are 0.
+// A number, and a count beside an array: C has no enum that carries values.
 #[repr(C)]
 #[derive(Clone, Copy)]
 pub struct Answer {
@@ -15,121 +17,136 @@ pub struct Answer {
     pub values: [u64; 3],
 }
 
-impl Answer {
-    /// A refusal by its number.
-    pub(crate) fn refused(number: u8) -> Answer
-        ensures { result ≡ refused number }
+/// Why a call takes up no crew.
+#[derive(Clone, Copy, PartialEq, Eq, Debug)]
+pub(crate) enum Refused {
+    /// The numbers mean no crew that could have been laid.
+    NeverLaid,
+    /// The call is for an open crew and this one drains, or the other way round.
+    OutOfPlace,
+}
+
+impl Refused {
+    /// The refusal's number.
+    fn number(self) -> u8
+        ensures { result ≡ refused_number self }
     {
+        match self {
+            Refused::NeverLaid => Refusal::NeverLaid.number(),
+            Refused::OutOfPlace => Fault::OutOfPlace.number(),
+        }
+    }
+}
+
+impl Answer {
+    /// The answer with this number and these values, of which there are at most three.
+    fn telling(number: u8, values: &[u64]) -> Answer
+        ensures { result ≡ answer_of (told number values.now) }
+    {
+        let value = |place: usize| values.get(place).copied().unwrap_or(0);
         Answer {
             number: u64::from(number),
-            count: 0,
-            values: [0; 3],
+            count: values.len() as u64,
+            values: [value(0), value(1), value(2)],
         }
     }
+}
 
-    /// Nothing but that the call was accepted.
-    pub(crate) fn of_done(res: Result<(), Refusal>) -> Answer
-        ensures { result ≡ answer_of (told_done res) }
-    {
-        match res {
-            Ok(()) => Answer::refused(0),
-            Err(refusal) => Answer::refused(refusal.number()),
+/// What an accepted call has to tell.
+pub(crate) trait Tells {
+    /// Its number and its values.
+    ghost told: { Self → Told };
+
+    /// The answer.
+    fn answer(self) -> Answer
+        ensures { result ≡ answer_of (told self) };
+}
+
+/// Nothing but that the call was accepted.
+impl Tells for () {
+    ghost told = { λ _. told 0 [] };
+
+    fn answer(self) -> Answer {
+        Answer::telling(0, &[])
+    }
+}
+
+/// How a post goes.
+impl Tells for LaneAnswer {
+    ghost told = { lane_told };
+
+    fn answer(self) -> Answer {
+        match self {
+            LaneAnswer::On => Answer::telling(0, &[]),
+            LaneAnswer::Posted { stamp, grants } => Answer::telling(0, &[stamp, grants]),
+            LaneAnswer::Full { grants } => Answer::telling(8, &[grants]),
+            LaneAnswer::UsedUp { grants } => Answer::telling(9, &[grants]),
         }
     }
+}
 
-    /// What a lane's grant answers.
-    pub(crate) fn of_lane(res: Result<LaneAnswer, Refusal>) -> Answer
-        ensures { result ≡ answer_of (told_lane res) }
-    {
-        match res {
-            Ok(LaneAnswer::On) => Answer::refused(0),
-            Ok(LaneAnswer::Posted { stamp, grants }) => Answer {
-                number: 0,
-                count: 2,
-                values: [stamp, grants, 0],
-            },
-            Ok(LaneAnswer::Full { grants }) => Answer {
-                number: 8,
-                count: 1,
-                values: [grants, 0, 0],
-            },
-            Ok(LaneAnswer::UsedUp { grants }) => Answer {
-                number: 9,
-                count: 1,
-                values: [grants, 0, 0],
-            },
-            Err(refusal) => Answer::refused(refusal.number()),
-        }
-    }
+/// How a collect ended.
+impl Tells for Collected {
+    ghost told = { collected_told };
 
-    /// How a collect ended.
-    fn of_collected(how: Collected) -> Answer
-        ensures { result ≡ answer_of (collected_told how) }
-    {
-        match how {
-            Collected::Empty { grants } => Answer {
-                number: 0,
-                count: 1,
-                values: [grants, 0, 0],
-            },
+    fn answer(self) -> Answer {
+        match self {
+            Collected::Empty { grants } => Answer::telling(0, &[grants]),
             Collected::Delivered {
                 lane,
                 stamp,
                 grants,
-            } => Answer {
-                number: 0,
-                count: 3,
-                values: [lane as u64, stamp, grants],
-            },
+            } => { Answer::telling(0, &[lane as u64, stamp, grants]) }
         }
     }
+}
 
-    /// What the collector's grant answers.
-    pub(crate) fn of_collector(res: Result<CollectorAnswer, Refusal>) -> Answer
-        ensures { result ≡ answer_of (told_collector res) }
-    {
-        match res {
-            Ok(CollectorAnswer::On) => Answer::refused(0),
-            Ok(CollectorAnswer::Ended(how)) => Answer::of_collected(how),
-            Err(refusal) => Answer::refused(refusal.number()),
+/// How a collect goes.
+impl Tells for CollectorAnswer {
+    ghost told = { collector_told };
+
+    fn answer(self) -> Answer {
+        match self {
+            CollectorAnswer::On => Answer::telling(0, &[]),
+            CollectorAnswer::Ended(how) => how.answer(),
         }
     }
+}
 
-    /// What a settling answers.
-    pub(crate) fn of_settled(res: Result<Collected, Refusal>) -> Answer
-        ensures { result ≡ answer_of (told_by collected_told res) }
-    {
+/// How many frames lie in a lane.
+impl Tells for usize {
+    ghost told = { λ frames. told 0 (frames ∷ []) };
+
+    fn answer(self) -> Answer {
+        Answer::telling(0, &[self as u64])
+    }
+}
+
+/// Both totals.
+impl Tells for Totals {
+    ghost told = { λ totals. told 0 (totals.posted ∷ totals.delivered ∷ []) };
+
+    fn answer(self) -> Answer {
+        Answer::telling(0, &[self.posted, self.delivered])
+    }
+}
+
+/// What a call tells that may be refused.
+impl<T: Tells> From<Result<T, Refusal>> for Answer {
+    ghost from_gives = { λ res answer. answer ≡ answer_of (told_by T.told res) };
+
+    fn from(res: Result<T, Refusal>) -> Answer {
         match res {
-            Ok(how) => Answer::of_collected(how),
-            Err(refusal) => Answer::refused(refusal.number()),
+            Ok(told) => told.answer(),
+            Err(refusal) => Answer::telling(refusal.number(), &[]),
         }
     }
+}
 
-    /// The fill of a lane.
-    pub(crate) fn of_fill(res: Result<usize, Refusal>) -> Answer
-        ensures { result ≡ answer_of (told_fill res) }
-    {
-        match res {
-            Ok(frames) => Answer {
-                number: 0,
-                count: 1,
-                values: [frames as u64, 0, 0],
-            },
-            Err(refusal) => Answer::refused(refusal.number()),
-        }
-    }
+impl From<Refused> for Answer {
+    ghost from_gives = { λ refused answer. answer ≡ answer_of (told (refused_number refused) []) };
 
-    /// Both totals.
-    pub(crate) fn of_totals(res: Result<Totals, Refusal>) -> Answer
-        ensures { result ≡ answer_of (told_totals res) }
-    {
-        match res {
-            Ok(Totals { posted, delivered }) => Answer {
-                number: 0,
-                count: 2,
-                values: [posted, delivered, 0],
-            },
-            Err(refusal) => Answer::refused(refusal.number()),
-        }
+    fn from(refused: Refused) -> Answer {
+        Answer::telling(refused.number(), &[])
     }
 }
