@@ -26,7 +26,7 @@ pub extern "C" fn cline_lay(
     ensures step { Leaves (calls is_open (words_of board.old) trays.now crew.old (λ c. lays (words_of board.old) trays.now c lanes cells start)) result (words_of board.new) trays.now crew.new }
     ensures rest { rest_of board.new ≡ rest_of board.old }
 {
-    match open_crew(*crew) {
+    match open_crew(crew) {
         Ok(mut open) => {
             let mut board = ByteBoard { bytes: board };
             let result = open.lay(&mut board, trays, lanes, cells, start);
@@ -47,7 +47,7 @@ pub extern "C" fn cline_begin_post(
 ) -> Answer
     ensures { (ws : List ℕ) → Leaves (calls is_open ws trays.old crew.old (λ c. begins_post ws trays.old c lane ticket.now)) result ws trays.new crew.new }
 {
-    match open_crew(*crew) {
+    match open_crew(crew) {
         Ok(mut open) => {
             let result = open.begin_post(trays, lane, *ticket);
             *crew = PlainCrew::from(open.core);
@@ -68,7 +68,7 @@ pub extern "C" fn cline_grant_lane(
     ensures step { Leaves (calls any_kind (words_of board.old) trays.old crew.old (λ c. grants_lane (words_of board.old) trays.old c lane)) result (words_of board.new) trays.new crew.new }
     ensures rest { rest_of board.new ≡ rest_of board.old }
 {
-    match any_crew(*crew) {
+    match any_crew(crew) {
         Ok(mut held) => {
             let mut board = ByteBoard { bytes: board };
             let result = held.grant_lane(&mut board, trays, lane);
@@ -84,7 +84,7 @@ pub extern "C" fn cline_grant_lane(
 pub extern "C" fn cline_begin_collect(crew: &mut PlainCrew) -> Answer
     ensures { CrewLeaves (crew_calls any_kind crew.old begins_collect) result crew.new }
 {
-    match any_crew(*crew) {
+    match any_crew(crew) {
         Ok(held) => {
             let mut core = Core::from(held);
             let result = core.open_collect();
@@ -105,7 +105,7 @@ pub extern "C" fn cline_grant_collector(
     ensures step { Leaves (calls any_kind (words_of board.old) trays.old crew.old (λ c. grants_collector (words_of board.old) trays.old c)) result (words_of board.new) trays.new crew.new }
     ensures rest { rest_of board.new ≡ rest_of board.old }
 {
-    match any_crew(*crew) {
+    match any_crew(crew) {
         Ok(mut held) => {
             let mut board = ByteBoard { bytes: board };
             let result = held.grant_collector(&mut board, trays);
@@ -121,7 +121,7 @@ pub extern "C" fn cline_grant_collector(
 pub extern "C" fn cline_settle(crew: &mut PlainCrew) -> Answer
     ensures { CrewLeaves (crew_calls any_kind crew.old settles) result crew.new }
 {
-    match any_crew(*crew) {
+    match any_crew(crew) {
         Ok(held) => {
             let mut core = Core::from(held);
             let result = core.close_collect();
@@ -137,7 +137,7 @@ pub extern "C" fn cline_settle(crew: &mut PlainCrew) -> Answer
 pub extern "C" fn cline_drain(crew: &mut PlainCrew) -> Answer
     ensures { CrewLeaves (crew_calls is_open crew.old drains) result crew.new }
 {
-    match open_crew(*crew) {
+    match open_crew(crew) {
         Ok(open) => {
             let draining = open.drain();
             *crew = PlainCrew::from(draining.core);
@@ -152,7 +152,7 @@ pub extern "C" fn cline_drain(crew: &mut PlainCrew) -> Answer
 pub extern "C" fn cline_fill(crew: &PlainCrew, lane: usize) -> Answer
     ensures { result ≡ tells any_kind crew.now (λ c. fills c lane) }
 {
-    match any_crew(*crew) {
+    match any_crew(crew) {
         Ok(held) => Answer::from(held.fill(lane)),
         Err(refused) => Answer::from(refused),
     }
@@ -163,7 +163,7 @@ pub extern "C" fn cline_fill(crew: &PlainCrew, lane: usize) -> Answer
 pub extern "C" fn cline_report(crew: &PlainCrew) -> Answer
     ensures { result ≡ tells is_draining crew.now reports }
 {
-    match draining_crew(*crew) {
+    match draining_crew(crew) {
         Ok(draining) => Answer::from(draining.report()),
         Err(refused) => Answer::from(refused),
     }

@@ -19,15 +19,17 @@ impl From<UnfitShape> for Refused {
 }
 
 /// The crew that the numbers mean.
-pub(crate) fn any_crew(plain: PlainCrew) -> Result<EitherCrew, Refused>
-    ensures { kept_by core_kept result ≡ take any_kind (core_of plain) }
+pub(crate) fn any_crew(plain: &PlainCrew) -> Result<EitherCrew, Refused>
+    ensures { kept_by core_kept result ≡ take any_kind (core_of plain.now) }
 {
     Ok(EitherCrew::try_from(Core::from(plain))?)
 }
 
+// Two functions, one for each kind: over both there would be a trait and an impl for each, longer than these arms.
+
 /// The crew that the numbers mean, if it is open.
-pub(crate) fn open_crew(plain: PlainCrew) -> Result<Crew, Refused>
-    ensures { kept_by (λ crew. crew.core) result ≡ take is_open (core_of plain) }
+pub(crate) fn open_crew(plain: &PlainCrew) -> Result<Crew, Refused>
+    ensures { kept_by (λ crew. crew.core) result ≡ take is_open (core_of plain.now) }
 {
     match any_crew(plain)? {
         EitherCrew::Open(crew) => Ok(crew),
@@ -36,8 +38,8 @@ pub(crate) fn open_crew(plain: PlainCrew) -> Result<Crew, Refused>
 }
 
 /// The crew that the numbers mean, if it drains.
-pub(crate) fn draining_crew(plain: PlainCrew) -> Result<DrainingCrew, Refused>
-    ensures { kept_by (λ crew. crew.core) result ≡ take is_draining (core_of plain) }
+pub(crate) fn draining_crew(plain: &PlainCrew) -> Result<DrainingCrew, Refused>
+    ensures { kept_by (λ crew. crew.core) result ≡ take is_draining (core_of plain.now) }
 {
     match any_crew(plain)? {
         EitherCrew::Draining(crew) => Ok(crew),

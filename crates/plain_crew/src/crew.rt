@@ -31,10 +31,10 @@ pub struct PlainCrew {
 }
 
 /// What the crew keeps that the numbers mean.
-impl From<PlainCrew> for Core {
-    ghost from_gives = { λ plain core. core ≡ core_of plain };
+impl From<&PlainCrew> for Core {
+    ghost from_gives = { λ plain core. core ≡ core_of plain.now };
 
-    fn from(plain: PlainCrew) -> Core {
+    fn from(plain: &PlainCrew) -> Core {
         let heads = plain.heads;
         Core {
             shape: Shape {
