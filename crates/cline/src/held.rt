@@ -25,7 +25,7 @@ pub(crate) fn any_crew(plain: &PlainCrew) -> Result<EitherCrew, Refused>
     Ok(EitherCrew::try_from(Core::from(plain))?)
 }
 
-// Two functions, one for each kind: over both there would be a trait and an impl for each, longer than these arms.
+// Two functions, one for each kind: one over both would want a trait with an impl for each kind, longer than the two.
 
 /// The crew that the numbers mean, if it is open.
 pub(crate) fn open_crew(plain: &PlainCrew) -> Result<Crew, Refused>
