@@ -1,4 +1,5 @@
 pub mod Tested
+pub mod Steps
 pub mod LaidWords
 pub mod Endings
 pub mod Telling

@@ -113,6 +113,10 @@ drained c =
 abbrev pub laid_words : List ℕ → ℕ → ℕ → ℕ → List ℕ
 laid_words ws n k start = start ∷ replicate n empty_word ++ (replicate (2 * n + n * k) 0 ++ drop (words_needed (shape n k)) ws)
 
+-- 1 to 16 lanes of 2 to 64 cells
+abbrev pub is_shape : ℕ → ℕ → Bool
+is_shape n k = nat_le 1 n && (nat_le n 16 && (nat_le 2 k && nat_le k 64))
+
 module _ {P : Type 0} (ws : List ℕ) (ps : List P) (c : Core) where
   abbrev pub refuse : ℕ → Outcome P
   refuse number = record { answer = told number []; words = ws; trays = ps; crew = c }
@@ -126,7 +130,7 @@ module _ {P : Type 0} (ws : List ℕ) (ps : List P) (c : Core) where
   -- Laying: words and crew have nothing under way; the trays stay.
   abbrev pub laying_tests : ℕ → ℕ → ℕ → List (Bool × ℕ)
   laying_tests n k start =
-      (nat_le 1 n && (nat_le n 16 && (nat_le 2 k && nat_le k 64)), 1)
+      (is_shape n k, 1)
       ∷ (nat_le start stamp_limit, 2)
       ∷ (not (begun c.collector.stage), 10)
       ∷ (board_holds (shape n k) && trays_hold (shape n k), 3)

@@ -1,9 +1,10 @@
 //! Laying a line over a board: a crew with nothing under way, and words to match.
-ghost use Rattle.std.specs.Prelude.{◌≡◌, ℕ, ◌+◌, ◌*◌, ◌^◌, ◌<◌, ◌≤◌, true, false, length, replicate};
+ghost use Rattle.std.specs.Prelude.{◌≡◌, ℕ, ◌+◌, ◌*◌, ◌^◌, ◌<◌, ◌≤◌, true, false, length, replicate, MatchResult};
+ghost use Rattle.line.specs.declared.answer.Refusal.TheVariants.{BadShape};
 ghost use Rattle.std.proofs.Math.Seq.{paste};
 ghost use Rattle.line.specs.Answers.{told_done};
-ghost use Rattle.line.specs.Calls.{Gives, laid_words, lays};
-ghost use Rattle.line.specs.Crew.{never_laid, resting_crew};
+ghost use Rattle.line.specs.Calls.{Gives, is_shape, laid_words, lays};
+ghost use Rattle.line.specs.Crew.{never_laid, resting_crew, shape};
 ghost use Rattle.line.specs.Map.{words_needed};
 
 use crate::access::Shape;
@@ -13,6 +14,21 @@ use crate::crew::{Core, Crew, Open};
 use crate::lane::{LaneRow, Stage};
 use boards::{Board, EMPTY, STAMP_LIMIT};
 use std::marker::PhantomData;
+
+impl Shape {
+    /// The shape of a line with so many lanes of so many cells, if a line can have it.
+    fn of(lanes: usize, cells: usize) -> Result<Shape, Refusal>
+        ensures { MatchResult result (λ s. (is_shape lanes cells ≡ true) × (s ≡ shape lanes cells)) (λ e. (is_shape lanes cells ≡ false) × (e ≡ BadShape)) }
+    {
+        if !(1..=16).contains(&lanes) || !(2..=64).contains(&cells) {
+            return Err(Refusal::BadShape);
+        }
+        Ok(Shape {
+            lanes: lanes as u8,
+            cells: cells as u8,
+        })
+    }
+}
 
 impl Core {
     /// A crew of this shape with nothing under way.
@@ -92,19 +108,13 @@ impl Crew<Open> {
         ensures step { Gives (lays (B.Board.words board.old) trays.now self.old.core lanes cells start) (told_done result) (B.Board.words board.new) trays.now self.new.core }
         ensures stays { B.Board.home board.new ≡ B.Board.home board.old }
     {
-        if !(1..=16).contains(&lanes) || !(2..=64).contains(&cells) {
-            return Err(Refusal::BadShape);
-        }
+        let shape = Shape::of(lanes, cells)?;
         if start > STAMP_LIMIT {
             return Err(Refusal::BadStart);
         }
         if self.core.collector.stage.is_begun() {
             return Err(Refusal::CollectUnsettled);
         }
-        let shape = Shape {
-            lanes: lanes as u8,
-            cells: cells as u8,
-        };
         if !shape.held_by(board.len(), trays.len()) {
             return Err(Refusal::TooShort);
         }
