@@ -25,6 +25,8 @@ pub enum CrewCall {
 }
 
 /// A call before the drain.
+///
+/// Not a `Result`: neither case is a failure, and each is named after what is called.
 #[derive(Clone, Copy)]
 pub enum OpenCall<P> {
     /// Begin a post of `payload` on `lane`.
@@ -33,6 +35,8 @@ pub enum OpenCall<P> {
 }
 
 /// A call after the drain.
+///
+/// Not an `Option` of the calls that every crew takes: what is called has a name.
 #[derive(Clone, Copy)]
 pub enum DrainingCall {
     Any(CrewCall),
