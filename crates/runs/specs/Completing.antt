@@ -13,9 +13,9 @@ abbrev pub HasRoom : {X : Type 0} → Vec Answer Global → List X → Type 0
 HasRoom answers calls = (answers.items ≡ []) × (vec_len answers ≡ 0) × (length calls ≤ vec_capacity answers)
 
 -- the calls after the drain; none without one
-abbrev pub later_calls : Option (Vec DrainingCall Global) → List DrainingCall
+abbrev pub later_calls : Option (List DrainingCall) → List DrainingCall
 later_calls None = []
-later_calls (Some calls) = vec_items calls
+later_calls (Some calls) = calls
 
 -- what the calls after the drain said, if there was one
 abbrev pub said_after : Option (Vec Answer Global) → Option (List Said)

@@ -146,6 +146,7 @@ impl<C: AnyCrew, B: Board, P: Copy> Running<'_, '_, C, B, P> {
     }
 
     /// The crew, where no receipt is held.
+    // Taken apart here too: a value that holds a lent slice cannot be passed on to `into_parts`.
     pub(crate) fn into_crew(self) -> C
         requires { is_some self.held ≡ false }
         ensures crew { result ≡ self.entry.crew }

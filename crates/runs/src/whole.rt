@@ -38,11 +38,11 @@ pub fn run_calls<B: Board, P: Copy>(
     trays: &mut [P],
     laying: Laying,
     before: &[OpenCall<P>],
-    after: &Option<Vec<DrainingCall>>,
+    after: Option<&[DrainingCall]>,
 ) -> Result<Run, AllocError>
-    ensures run { MatchResult result (λ done. Completes (runs (B.Board.words board.old) trays.old laying before.now (option_map vec_items after.now)) (told_done done.laid) (map said done.before.items) (said_after done.after) (B.Board.words board.new) trays.new (core_kept done.crew)) (λ _. (B.Board.words board.new ≡ B.Board.words board.old) × (trays.new ≡ trays.old)) }
+    ensures run { MatchResult result (λ done. Completes (runs (B.Board.words board.old) trays.old laying before.now (option_map (λ calls. calls.now) after.entry)) (told_done done.laid) (map said done.before.items) (said_after done.after) (B.Board.words board.new) trays.new (core_kept done.crew)) (λ _. (B.Board.words board.new ≡ B.Board.words board.old) × (trays.new ≡ trays.old)) }
     ensures promise { EveryListOfCallsKeepsThePromise P }
-    ensures kept { TheseCallsKeepThePromise (B.Board.words board.old) trays.old laying before.now (option_map vec_items after.now) }
+    ensures kept { TheseCallsKeepThePromise (B.Board.words board.old) trays.old laying before.now (option_map (λ calls. calls.now) after.entry) }
     ensures same { (s : State P) (later : List LaterCall) → ReachTheSame s before.now later }
 {
     run_list(heap, board, trays, laying, before, after)
@@ -55,9 +55,9 @@ fn run_list<B: Board, P: Copy>(
     trays: &mut [P],
     laying: Laying,
     before: &[OpenCall<P>],
-    after: &Option<Vec<DrainingCall>>,
+    after: Option<&[DrainingCall]>,
 ) -> Result<Run, AllocError>
-    ensures { MatchResult result (λ done. Completes (runs (B.Board.words board.old) trays.old laying before.now (option_map vec_items after.now)) (told_done done.laid) (map said done.before.items) (said_after done.after) (B.Board.words board.new) trays.new (core_kept done.crew)) (λ _. (B.Board.words board.new ≡ B.Board.words board.old) × (trays.new ≡ trays.old)) }
+    ensures { MatchResult result (λ done. Completes (runs (B.Board.words board.old) trays.old laying before.now (option_map (λ calls. calls.now) after.entry)) (told_done done.laid) (map said done.before.items) (said_after done.after) (B.Board.words board.new) trays.new (core_kept done.crew)) (λ _. (B.Board.words board.new ≡ B.Board.words board.old) × (trays.new ≡ trays.old)) }
 {
     let mut told = Vec::with_capacity(heap, before.len())?;
     let mut told_later = Vec::with_capacity(heap, count_of(after))?;
@@ -82,8 +82,8 @@ fn run_list<B: Board, P: Copy>(
 }
 
 /// How many calls follow the drain; 0 without one.
-fn count_of(after: &Option<Vec<DrainingCall>>) -> usize
-    ensures { result ≡ length (later_calls after.now) }
+fn count_of(after: Option<&[DrainingCall]>) -> usize
+    ensures { result ≡ length (later_calls (option_map (λ calls. calls.now) after.entry)) }
 {
     match after {
         None => 0,
@@ -97,12 +97,12 @@ fn perform_list<B: Board, P: Copy>(
     trays: &mut [P],
     laying: Laying,
     before: &[OpenCall<P>],
-    after: &Option<Vec<DrainingCall>>,
+    after: Option<&[DrainingCall]>,
     told: &mut Vec<Answer>,
     told_later: &mut Vec<Answer>,
 ) -> (Result<(), Refusal>, EitherCrew)
-    requires { HasRoom told.old before.now × HasRoom told_later.old (later_calls after.now) }
-    ensures { Completes (runs (B.Board.words board.old) trays.old laying before.now (option_map vec_items after.now)) (told_done result.0) (map said told.new.items) (option_map (λ _. map said told_later.new.items) after.now) (B.Board.words board.new) trays.new (core_kept result.1) }
+    requires { HasRoom told.old before.now × HasRoom told_later.old (later_calls (option_map (λ calls. calls.now) after)) }
+    ensures { Completes (runs (B.Board.words board.old) trays.old laying before.now (option_map (λ calls. calls.now) after.entry)) (told_done result.0) (map said told.new.items) (option_map (λ _. map said told_later.new.items) after.entry) (B.Board.words board.new) trays.new (core_kept result.1) }
 {
     let mut crew = Crew::new();
     let laid = crew.lay(board, trays, laying.lanes, laying.cells, laying.start);
@@ -126,7 +126,7 @@ fn perform_list<B: Board, P: Copy>(
                 trays,
                 held,
             };
-            draining.perform_all(later.as_slice(), told_later);
+            draining.perform_all(later, told_later);
             draining.close();
             (laid, EitherCrew::Draining(draining.into_crew()))
         }

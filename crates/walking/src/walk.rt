@@ -50,7 +50,7 @@ fn walk_line<P: Payload>(
         trays.as_mut_slice(),
         opened.laying,
         calls.before.as_slice(),
-        &calls.after,
+        calls.after.as_deref(),
     )?;
     let mut lines = lines_of(heap, &run)?;
     if let Some(fault) = calls.fault {

@@ -1,4 +1,4 @@
-use Rattle.std.proofs.Common.{Some, rules, sym, ap, ◌∙◌, vec_items}
+use Rattle.std.proofs.Common.{rules, ap, ◌∙◌}
 use Rattle.std.specs.Option.{option_map}
 use Rattle.line.specs.Answers.{told_done}
 use Rattle.line.specs.Calls.{drained}
@@ -26,7 +26,7 @@ returns-in-None g c =
     let ps = c.args.trays.now in
     let did = completes_undrained ws ps c.args.laying c.args.before.now _ c.new-crew.ensures (told_done c.lay-laid.result) _ _ _ c.lay-laid.ensures.step _ _ _ _ c.perform_all.ensures.left _ _ _
     c.close.ensures.board c.close.ensures.trays c.close.ensures.crew in
-    let whole = completes_same _ _ _ _ _ _ _ _ (ap (λ later. runs ws ps c.args.laying c.args.before.now (option_map vec_items later)) c.in-None.is) did in
+    let whole = completes_same _ _ _ _ _ _ _ _ (ap (λ later. runs ws ps c.args.laying c.args.before.now (option_map (λ calls. calls.now) later)) c.in-None.is) did in
     record {
       lays = whole.lays;
       says_before = whole.says_before;
@@ -42,9 +42,9 @@ returns-in-Some g c =
     let ps = c.args.trays.now in
     let drained_crew = c.drain.ensures ∙ ap (λ k. drained k.core) c.into_parts-held.ensures.crew in
     let did = completes_drained ws ps c.args.laying c.args.before.now _ c.new-crew.ensures (told_done c.lay-laid.result) _ _ _ c.lay-laid.ensures.step _ _ _ _ c.perform_all.ensures.left
-    c.as_slice.result.now _ _ _ _ _ _ _ _ _ _ (search rules) (search rules) drained_crew c.perform_all-in-Some.ensures.left
+    c.in-Some.later.now _ _ _ _ _ _ _ _ _ _ (search rules) (search rules) drained_crew c.perform_all-in-Some.ensures.left
     c.close-in-Some.ensures.board c.close-in-Some.ensures.trays c.close-in-Some.ensures.crew in
-    let later_same = ap (λ later. runs ws ps c.args.laying c.args.before.now (option_map vec_items later)) c.in-Some.is ∙ ap (λ later. runs ws ps c.args.laying c.args.before.now (Some later)) (sym c.as_slice.ensures.value) in
+    let later_same = ap (λ later. runs ws ps c.args.laying c.args.before.now (option_map (λ calls. calls.now) later)) c.in-Some.is in
     let whole = completes_same _ _ _ _ _ _ _ _ later_same did in
     record {
       lays = whole.lays;

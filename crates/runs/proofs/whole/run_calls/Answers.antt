@@ -1,4 +1,3 @@
-use Rattle.std.proofs.Common.{vec_items}
 use Rattle.std.specs.Option.{option_map}
 use Rattle.history.proofs.Promised.{every_list_of_calls_keeps_the_promise}
 use Rattle.runs.proofs.Ones.{these_calls_keep_the_promise}
@@ -10,6 +9,6 @@ returns g c =
     record {
       run = c.run_list.ensures;
       promise = every_list_of_calls_keeps_the_promise g.row.P.Denot;
-      kept = these_calls_keep_the_promise (g.B.Board.words c.args.board.now) c.args.trays.now c.args.laying c.args.before.now (option_map vec_items c.args.after.now);
+      kept = these_calls_keep_the_promise (g.B.Board.words c.args.board.now) c.args.trays.now c.args.laying c.args.before.now (option_map (λ calls. calls.now) c.args.after);
       same = λ s later. reach_the_same s c.args.before.now later;
     }
