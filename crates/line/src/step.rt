@@ -141,36 +141,22 @@ impl Lane {
         ensures after { self.new.row ≡ row_after self.old.row word }
     {
         let grants = self.row.grants.saturating_add(1);
-        let next = self.next(word);
-        if let Stage::Publish { .. } = self.row.stage {
-            self.row.tail = self.next_tail();
-        }
-        match next {
-            Next::Goes(stage) => {
-                self.row.stage = stage;
-                self.row.grants = grants;
-                LaneAnswer::On
-            }
-            Next::EndsPosted(stamp) => {
-                self.rest();
-                LaneAnswer::Posted { stamp, grants }
-            }
-            Next::EndsFull => {
-                self.rest();
-                LaneAnswer::Full { grants }
-            }
-            Next::EndsUsedUp => {
-                self.rest();
-                LaneAnswer::UsedUp { grants }
-            }
-        }
-    }
-
-    /// No post is under way any more.
-    fn rest(&mut self)
-        ensures { self.new.row ≡ record { cells = self.old.row.cells; tail = self.old.row.tail; stage = Stage.AtRest; grants = 0 } }
-    {
-        self.row.stage = Stage::AtRest;
-        self.row.grants = 0;
+        let tail = match self.row.stage {
+            Stage::Publish { .. } => self.next_tail(),
+            _ => self.row.tail,
+        };
+        let (stage, kept, answer) = match self.next(word) {
+            Next::Goes(stage) => (stage, grants, LaneAnswer::On),
+            Next::EndsPosted(stamp) => (Stage::AtRest, 0, LaneAnswer::Posted { stamp, grants }),
+            Next::EndsFull => (Stage::AtRest, 0, LaneAnswer::Full { grants }),
+            Next::EndsUsedUp => (Stage::AtRest, 0, LaneAnswer::UsedUp { grants }),
+        };
+        self.row = LaneRow {
+            tail,
+            stage,
+            grants: kept,
+            ..self.row
+        };
+        answer
     }
 }
