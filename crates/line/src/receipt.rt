@@ -6,6 +6,7 @@ use crate::answer::Refusal;
 /// A begun collect, as its owner holds it: it cannot be let go, and only settling spends it.
 pub struct Receipt {
     /// Whether the collect is settled. No receipt ever says so: it is made as its collect begins, and settling spends it.
+    // A flag with nothing beside it: what a drop requires has to be said of the receipt itself.
     settled: bool,
 }
 

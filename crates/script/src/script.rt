@@ -101,7 +101,7 @@ fn read_opening(input: &[u8]) -> Result<Opened<'_>, Fault>
     })
 }
 
-/// The numbers that a record lays a line with.
+/// The numbers that a record lays a line with. No `From`: only the record of a laying has them.
 fn laying_of(record: &Record) -> Laying
     ensures { result ≡ laying_of «record».now }
 {

@@ -22,7 +22,7 @@ pub enum Answer {
     Spilled,
 }
 
-/// The answer to a line of the input.
+/// The answer to a line of the input. Both are answers, so neither is an error or missing.
 #[derive(Clone, Copy, PartialEq)]
 pub enum Reply {
     Once(Answer),
