@@ -79,8 +79,9 @@ impl Tells for LaneAnswer {
         match self {
             LaneAnswer::On => Answer::telling(0, &[]),
             LaneAnswer::Posted { stamp, grants } => Answer::telling(0, &[stamp, grants]),
-            LaneAnswer::Full { grants } => Answer::telling(8, &[grants]),
-            LaneAnswer::UsedUp { grants } => Answer::telling(9, &[grants]),
+            LaneAnswer::Full { grants } | LaneAnswer::UsedUp { grants } => {
+                Answer::telling(self.number(), &[grants])
+            }
         }
     }
 }

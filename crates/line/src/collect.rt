@@ -39,6 +39,8 @@ impl CollectStage {
     }
 }
 
+// The ring comes beside `self`: a `Core` by itself may have no cells.
+// The ring comes beside `self`: a `Core` alone may have no cells.
 impl Core {
     /// The copy of a lane's head.
     pub(crate) fn head(&self, lane: u8) -> u8
@@ -51,6 +53,7 @@ impl Core {
     pub(crate) fn collector_access(&self, ring: Ring) -> Access
         ensures { result ≡ collector_access (shape self.now.shape.lanes ring.cells) self.now.heads self.now.collector.stage }
     {
+        // One match on the stage: each has its one access.
         match self.collector.stage {
             CollectStage::Idle => Access::Nothing,
             CollectStage::ScanFirst { next, .. } => Access::Load(Address::Slot(next)),
@@ -85,6 +88,7 @@ impl Core {
     pub(crate) fn collector_next(&self, ring: Ring, word: u64) -> CollectNext
         ensures { result ≡ collector_next (shape self.now.shape.lanes ring.cells) self.now.heads self.now.collector.stage word }
     {
+        // One match on the stage and the word read: the rule for what a grant does next.
         match (self.collector.stage, word) {
             (CollectStage::ScanFirst { next, kept }, slot) => after_first(
                 self.shape.lanes,

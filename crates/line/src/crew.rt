@@ -12,6 +12,8 @@ use std::marker::PhantomData;
 pub struct Core {
     pub shape: Shape,
     /// A row for each lane; those from `shape.lanes` on are not used.
+    ///
+    /// Sixteen, whatever the shape: a crew lies in fixed memory, without a heap.
     pub rows: [LaneRow; 16],
     /// For each lane the cell that is freed next: copies of the heads on the board.
     ///

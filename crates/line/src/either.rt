@@ -67,6 +67,7 @@ impl From<EitherCrew> for Core {
     }
 }
 
+// Two arms in each call: the grants are generic in board and payload, so there is no `dyn AnyCrew`.
 impl AnyCrew for EitherCrew {
     ghost core = { core_kept };
 

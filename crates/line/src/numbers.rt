@@ -1,8 +1,8 @@
 //! The numbers by which refusals are told.
 ghost use Rattle.std.specs.Prelude.{◌≡◌};
-ghost use Rattle.line.specs.Answers.{refusal_number};
+ghost use Rattle.line.specs.Answers.{lane_told, refusal_number};
 
-use crate::answer::Refusal;
+use crate::answer::{LaneAnswer, Refusal};
 
 impl Refusal {
     /// The refusal's number.
@@ -10,5 +10,18 @@ impl Refusal {
         ensures { result ≡ refusal_number self }
     {
         self as u8
+    }
+}
+
+impl LaneAnswer {
+    /// The number under which a grant is told that ends its post without posting; 0 for the others.
+    pub fn number(self) -> u8
+        ensures { result ≡ (lane_told self).number }
+    {
+        match self {
+            LaneAnswer::On | LaneAnswer::Posted { .. } => 0,
+            LaneAnswer::Full { .. } => 8,
+            LaneAnswer::UsedUp { .. } => 9,
+        }
     }
 }

@@ -46,6 +46,7 @@ impl Lane {
         ensures { result ≡ lane_access lane self.now.row self.now.row.stage }
     {
         let LaneRow { tail, stage, .. } = self.row;
+        // One match on the stage: each has its one access.
         match stage {
             Stage::AtRest => Access::Nothing,
             Stage::TestSpace => Access::Load(Address::Head(lane)),
@@ -68,6 +69,7 @@ impl Lane {
         ensures { result ≡ lane_next self.now.row self.now.row.stage word }
     {
         let ring = self.ring();
+        // One match on the stage and the word read: the rule for what a grant does next.
         match (self.row.stage, word) {
             (Stage::AtRest, _) => Next::Goes(Stage::AtRest),
             (Stage::TestSpace, head) if ring.cell_of(head) == self.next_tail() => Next::EndsFull,

@@ -45,10 +45,11 @@ impl fmt::Display for Frame {
 /// Trays for two lanes of three cells: two hands, the collector's hand and six cells.
 const TRAYS: usize = 9;
 
-/// More grants than a collect over two lanes can have.
+/// As many grants as a collect over two lanes can have.
 const MOST_GRANTS: usize = 13;
 
-/// Why the camera stops. A receipt that was not settled cannot be let go, so it leaves with the error, which keeps it.
+/// Why the camera stops. A receipt that was not settled cannot be let go, so the error keeps it in a `ManuallyDrop`, which lets
+/// nothing go.
 #[derive(Drop, Error)]
 #[derive_where(Debug)]
 enum Stop {
@@ -122,6 +123,7 @@ impl<C: AnyCrew> Camera<'_, C> {
     }
 
     /// Begins a collect, grants it to its end and settles it.
+    // Every maker's own: a shared one would be a call of the line that keeps an unspent receipt.
     fn collect(&mut self) -> Result<Collected, Stop> {
         let receipt = self.crew.begin_collect()?;
         for _ in 0..MOST_GRANTS {

@@ -51,7 +51,7 @@ fn pace(rt: &HostRuntime, lanes: u8, cycles: u32) -> Result<Duration, Stop> {
     Ok(time)
 }
 
-/// What the arguments ask for.
+/// What the arguments ask for. No `Option`: what is asked for has a name.
 #[derive(Clone, Copy)]
 enum Asked {
     Count,

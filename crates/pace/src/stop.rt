@@ -6,8 +6,8 @@ use std::io;
 use std::mem::ManuallyDrop;
 use thiserror::Error;
 
-/// What ends the program before its cycles do. A receipt that was not settled cannot be let go, so it leaves with `main`, and
-/// the error keeps it.
+/// What ends the program before its cycles do. A receipt that was not settled cannot be let go, so the error keeps it in a
+/// `ManuallyDrop`, which lets nothing go.
 #[derive(Drop, Error)]
 #[derive_where(Debug)]
 pub enum Stop {

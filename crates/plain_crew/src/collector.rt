@@ -35,7 +35,7 @@ pub struct PlainCollector {
     pub grants: u64,
 }
 
-// The numbers of the stages.
+// The numbers of the stages. Constants, not an enum: C may write any byte, and every other one means idle.
 const SCAN_FIRST: u8 = 1;
 
 const SCAN_SECOND: u8 = 2;

@@ -27,7 +27,7 @@ pub struct PlainLane {
     pub grants: u64,
 }
 
-// The numbers of the stages.
+// The numbers of the stages. Constants, not an enum: C may write any byte, and every other one means at rest.
 const TEST_SPACE: u8 = 1;
 
 const TAKE_STAMP: u8 = 2;

@@ -1,4 +1,4 @@
-//! Grants made one after another, up to the first answer other than on.
+//! The grants that can be made again: a lane's and the collector's.
 ghost use Rattle.std.specs.Prelude.{◌≡◌, ℕ, List, [], Ok, Option, Result};
 ghost use Rattle.line.specs.Answers.{Told, told, told_collector, told_lane};
 ghost use Rattle.line.specs.Calls.{Gives, Outcome, grants_collector, grants_lane};
@@ -23,6 +23,7 @@ pub(crate) trait Grant<P: Copy>: Copy {
     ghost tells: { Result Self.Answer Refusal → Told };
 
     /// Makes the grant. A run is as ready for its next call then as before.
+    // Board and trays apart, as `AnyCrew` takes them.
     fn make<C: AnyCrew, B: Board>(
         self,
         crew: &mut C,

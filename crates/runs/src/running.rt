@@ -17,6 +17,7 @@ use line::calls::AnyCrew;
 use line::collector::Collected;
 use line::receipt::{Receipt, Unspent};
 
+// `same_board`, `same_trays`: it holds the loans that it held; an invariant cannot speak of before and after.
 /// A line while calls are performed on it: its crew, the memory that it lies in, and the receipt of the collect that is begun.
 pub(crate) struct Running<'b, 't, C: AnyCrew, B: Board, P: Copy> {
     pub(crate) crew: C,

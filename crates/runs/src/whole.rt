@@ -48,7 +48,7 @@ pub fn run_calls<B: Board, P: Copy>(
     run_list(heap, board, trays, laying, before, after)
 }
 
-/// The run, without what every run keeps.
+/// The run, without what every run keeps: that is proved apart. It takes what its caller takes.
 fn run_list<B: Board, P: Copy>(
     heap: Global,
     board: &mut B,
@@ -73,10 +73,7 @@ fn run_list<B: Board, P: Copy>(
     Ok(Run {
         laid,
         before: told,
-        after: match after {
-            None => None,
-            Some(_) => Some(told_later),
-        },
+        after: after.map(|_| told_later),
         crew,
     })
 }
@@ -85,10 +82,7 @@ fn run_list<B: Board, P: Copy>(
 fn count_of(after: Option<&[DrainingCall]>) -> usize
     ensures { result ≡ length (later_calls (option_map (λ calls. calls.now) after.entry)) }
 {
-    match after {
-        None => 0,
-        Some(later) => later.len(),
-    }
+    after.map_or(0, |later| later.len())
 }
 
 /// The run, with room for all answers: what the laying answers, and the crew that is left.

@@ -31,7 +31,7 @@ impl Fault {
     }
 }
 
-/// What stands in the script, in words.
+/// What stands in the script, in words. By hand, as for `FaultAt`: a derived `Display` promises no text.
 impl fmt::Display for Fault {
     ghost output = { λ fault. Some (fault_text fault) };
 

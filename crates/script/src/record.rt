@@ -53,6 +53,7 @@ impl TryFrom<u16> for Kind {
 }
 
 /// A record: its kind, and its numbers as they stand in the script. A number that the kind does not have is 0.
+// Plain numbers, not an enum with a body for each kind: a record is handed out as it stands in the script.
 #[derive(Clone, Copy)]
 pub struct Record {
     /// Which record it is.
@@ -80,7 +81,7 @@ pub struct Record {
 }
 
 impl Record {
-    /// A record of this kind whose other numbers are 0.
+    /// A record of this kind whose numbers are 0. Written out: a kind has no default.
     fn blank(kind: Kind) -> Record
         ensures { result ≡ blank kind }
     {

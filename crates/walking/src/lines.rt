@@ -23,7 +23,7 @@ impl Line {
     pub fn refusal(self) -> Option<Refusal>
         ensures { result ≡ refusal_of self }
     {
-        // Results of different types, so each has a case of its own.
+        // Results of different types; the two that are alike stand apart too, since the check proves each by itself.
         match self {
             Line::Laid(result) => result.err(),
             Line::Answered(Answer::BeginPost(result)) => result.err(),
@@ -90,6 +90,7 @@ impl Display for OfLane {
         match self.answer {
             LaneAnswer::On => write!(f, "L{lane} on"),
             LaneAnswer::Posted { stamp, grants } => write!(f, "L{lane} posted {stamp} {grants}"),
+            // The numbers are part of the line's text, as `specs/Lines` writes it.
             LaneAnswer::Full { grants } => write!(f, "L{lane} refused 8 {grants}"),
             LaneAnswer::UsedUp { grants } => write!(f, "L{lane} refused 9 {grants}"),
         }

@@ -5,8 +5,8 @@ use std::io;
 use std::mem::ManuallyDrop;
 use thiserror::Error;
 
-/// What ends the program before its input does. A receipt that no settling took cannot be let go, so it leaves with `main`, and the
-/// fault keeps it.
+/// What ends the program before its input does. A receipt that no settling took cannot be let go, so the fault keeps it in a
+/// `ManuallyDrop`, which lets nothing go.
 #[derive(Drop, Error)]
 #[derive_where(Debug)]
 pub enum Fault {

@@ -11,7 +11,7 @@ use line::calls::AnyCrew;
 use line::crew::{Crew, DrainingCrew};
 use line::receipt::{Receipt, Unspent};
 
-/// More grants than a collect can have: 2 * 16 + 9.
+/// As many grants as a collect can have: 2 * 16 + 9.
 const MOST_GRANTS: usize = 41;
 
 /// How many words, and how many trays, a spare has at most.
@@ -23,6 +23,7 @@ pub struct Stuck {
     pub other: Option<Receipt>,
 }
 
+// By hand: the receipt has to be taken out and kept, which no derive does.
 impl From<Unspent> for Stuck {
     fn from(unspent: Unspent) -> Stuck {
         let Unspent {
@@ -39,6 +40,7 @@ impl From<Unspent> for Stuck {
 /// A crew that performs the calls of a list.
 pub trait Performs: AnyCrew + Drop {
     /// Makes a call that not every crew has; if this one does not have it, the answer is nothing.
+    // Board and trays apart: laying reads the trays of a `Memory` that is lent to be changed, which the check does not cover.
     fn own_call<B: Board>(&mut self, board: &mut B, trays: &mut [u64], call: Call) -> Answer;
 }
 
@@ -96,6 +98,7 @@ impl<C: Performs> Owner<C> {
         let Some(sizes) = step.spare else {
             return self.call(memory, step.call);
         };
+        // Whole arrays, cut to the sizes: a `Vec` could run out of memory while a receipt is held.
         let mut bytes = [0u8; 8 * SPARE];
         let mut payloads = [0u64; SPARE];
         let mut spare = Memory {

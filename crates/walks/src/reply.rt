@@ -38,8 +38,8 @@ impl fmt::Display for Answer {
             | Answer::Collector(CollectorAnswer::On) => write!(f, "0"),
             Answer::Number(value) => write!(f, "0 {value}"),
             Answer::Lane(LaneAnswer::Posted { stamp, grants }) => write!(f, "0 {stamp} {grants}"),
-            Answer::Lane(LaneAnswer::Full { grants }) => write!(f, "8 {grants}"),
-            Answer::Lane(LaneAnswer::UsedUp { grants }) => write!(f, "9 {grants}"),
+            Answer::Lane(answer @ (LaneAnswer::Full { grants } | LaneAnswer::UsedUp { grants })) =>
+                write!(f, "{} {grants}", answer.number()),
             Answer::Collector(CollectorAnswer::Ended(how)) | Answer::Settled(how) => match how {
                 Collected::Empty { grants } => write!(f, "0 {grants}"),
                 Collected::Delivered {
