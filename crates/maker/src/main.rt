@@ -195,6 +195,8 @@ impl<'a> Camera<'a, Crew> {
     }
 }
 
+// The camera's runtime and memory come one by one: they outlive each line that is laid.
+
 /// Two tiles post at the same time; the crew is drained while a third post is under way, which goes on, and what was posted is
 /// collected.
 fn two_tiles(rt: &HostRuntime, ram: &mut CameraRam) -> Result<(), Stop> {

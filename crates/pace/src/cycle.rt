@@ -60,6 +60,7 @@ impl Track<'_> {
     }
 
     /// Collects a ticket out of the collector's hand, the tray behind those of the lanes.
+    // As every maker collects: a shared one would be a call of the line that keeps an unspent receipt.
     fn collect(&mut self) -> Result<(), Stop> {
         let receipt = self.crew.begin_collect()?;
         let trays = self.trays.as_mut_slice();

@@ -158,6 +158,7 @@ impl From<Collector> for PlainCollector {
 }
 
 impl PlainCollector {
+    // Beside a lane's: the two differ in every field.
     fn stage_of(self) -> CollectStage
         ensures { result ≡ collect_stage_of self }
     {

@@ -142,6 +142,7 @@ impl From<LaneRow> for PlainLane {
 }
 
 impl PlainLane {
+    // Beside the collector's: the two differ in every field.
     fn stage_of(self) -> Stage
         ensures { result ≡ stage_of self }
     {

@@ -117,7 +117,7 @@ pub fn read_record(input: &[u8]) -> Result<(Record, &[u8]), Fault>
     Ok((record, &input[len..]))
 }
 
-/// The record of this kind whose body is `body`.
+/// The record of this kind whose body is `body`. The two come apart: what a body may be depends on the kind.
 fn read_body(kind: Kind, body: &[u8]) -> Result<Record, Fault>
     ensures { result ≡ body_of kind body.now }
 {

@@ -15,6 +15,8 @@ const AFTER_LAYING: usize = 16;
 /// As many trays as the largest line takes up.
 const TRAYS: usize = 1041;
 
+// Heap, script and output come one by one, here and in the other writers: nothing is true of them together.
+
 /// Runs a script, and writes its lines.
 pub fn write_lines<W: Write>(heap: Global, script: &[u8], out: &mut W) -> io::Result<()> {
     for line in walk_script(heap, script)? {

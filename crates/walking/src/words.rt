@@ -21,7 +21,7 @@ impl fmt::Display for Asked {
     }
 }
 
-// `Record` is a type of `script`, so the words for it are no `Display` of it.
+// `Record` is a type of `script`, so the words for it are no `Display` of it, but functions of a record and what is written to.
 fn show_record<W: fmt::Write>(record: &Record, f: &mut fmt::Formatter<W>) -> fmt::Result {
     let lane = record.lane;
     let times = Count(record.times, "time");
