@@ -12,7 +12,8 @@ pub const STAMP_LIMIT: u64 = 0x4000_0000_0000_0000;
 /// A list of 64-bit words of fixed length.
 ///
 /// Each call reads or changes at most the one word that it names. A call that names a word beyond the length changes nothing.
-// The five calls and what they take are fixed: boards are other makers' too.
+// The five calls and what they take are fixed: boards are other makers' too. `stays` stands in each: an invariant cannot speak of before and
+// after.
 pub trait Board {
     /// What the board means: its words, in order.
     ghost words: { Self → List ℕ };

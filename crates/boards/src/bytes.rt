@@ -36,7 +36,7 @@ impl<'a> ByteBoard<'a> {
 }
 
 // Beyond what every board promises: `size` and `rest`, the bytes behind the last whole word are as before; `loan`, the board holds
-// the same loan as before; `same`, nothing changes.
+// the same loan as before; `same`, nothing changes. They stand in each method: an invariant cannot speak of before and after.
 // So `swap` and `take`, which read as those of `Words`, are no bodies of the trait's own: those would promise only what every board does.
 #[tactic(auto, using(crate::proofs::ByteWords::words_found))]
 impl Board for ByteBoard<'_> {

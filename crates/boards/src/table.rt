@@ -39,7 +39,7 @@ impl<const N: usize> Board for Words<N> {
     }
 
     fn store(&mut self, k: usize, v: u64) {
-        // A proof does not know what an array holds after `get_mut`, so the place is tested first.
+        // By index, here and in `swap` and `take`: a proof does not know what an array holds after `get_mut`, so the place is tested first.
         if k < N {
             self.values[k] = v;
         }

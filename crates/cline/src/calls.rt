@@ -1,6 +1,7 @@
 //! The nine calls, as a C program makes them. Memory is lent for the time of a call; the crew is the caller's to keep.
 // Board and trays come apart, and lane and shape as bare numbers, as include/cline.h declares them. Each call takes the crew up and puts
-// it away itself: one function over a closure would need the closure's contract beside each call's.
+// it away itself: one function over a closure would need the closure's contract beside each call's. `rest` stands in each that takes a board: an invariant
+// cannot speak of before and after.
 ghost use Rattle.std.specs.Prelude.{◌≡◌, ℕ, List};
 ghost use Rattle.boards.specs.Bytes.{rest_of, words_of};
 ghost use Rattle.line.specs.Calls.{begins_collect, begins_post, fills, grants_collector, grants_lane, lays, reports, settles};

@@ -39,7 +39,6 @@ impl CollectStage {
     }
 }
 
-// The ring comes beside `self`: a `Core` by itself may have no cells.
 // The ring comes beside `self`: a `Core` alone may have no cells.
 impl Core {
     /// The copy of a lane's head.

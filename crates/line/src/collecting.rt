@@ -12,6 +12,7 @@ use crate::crew::Core;
 use crate::ring::Ring;
 use boards::EMPTY;
 
+// A ring comes beside `self` here too: a `Core` alone may have no cells. It has no `is_laid` of a crew's either.
 impl Core {
     /// Begins a collect: its first grant loads slot 0. No receipt is handed out here.
     pub fn open_collect(&mut self) -> Result<(), Refusal>
@@ -42,6 +43,7 @@ impl Core {
     {
         let grants = self.collector.grants.saturating_add(1);
         let next = self.collector_next(ring, word);
+        // Beside the match of `collector_next`: only the head depends on it, whatever comes next.
         if let CollectStage::Free { kept } = self.collector.stage {
             self.move_head(ring, kept.lane);
         }
@@ -93,6 +95,7 @@ impl Core {
         if self.shape.lanes == 0 {
             return Err(Refusal::NeverLaid);
         }
+        // One match on the stage: only an ended collect is settled.
         match self.collector.stage {
             CollectStage::Idle => Err(Refusal::NoCollect),
             CollectStage::Ended(how) => {

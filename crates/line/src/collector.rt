@@ -86,7 +86,7 @@ pub struct Collector {
     pub grants: u64,
 }
 
-/// What a grant makes of a collect: it goes on, or it ends.
+/// What a grant makes of a collect: it goes on, or it ends. No `ControlFlow`: each way to end has a name and values of its own.
 #[derive(Clone, Copy)]
 pub enum CollectNext {
     Goes(CollectStage),

@@ -76,7 +76,7 @@ pub struct Lane {
     ghost inside: { row.tail < row.cells },
 }
 
-/// What a grant makes of a post: it goes on, or it ends.
+/// What a grant makes of a post: it goes on, or it ends. No `ControlFlow`: each way to end has a name and values of its own.
 #[derive(Clone, Copy)]
 pub enum Next {
     Goes(Stage),

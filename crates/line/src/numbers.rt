@@ -1,4 +1,4 @@
-//! The numbers by which refusals are told.
+//! The numbers by which refusals are told, and posts that end without posting.
 ghost use Rattle.std.specs.Prelude.{◌≡◌};
 ghost use Rattle.line.specs.Answers.{lane_told, refusal_number};
 

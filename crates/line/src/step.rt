@@ -143,6 +143,7 @@ impl Lane {
         ensures after { self.new.row ≡ row_after self.old.row word }
     {
         let grants = self.row.grants.saturating_add(1);
+        // Beside the match of `next`: only the tail depends on it, whatever comes next.
         let tail = match self.row.stage {
             Stage::Publish { .. } => self.next_tail(),
             _ => self.row.tail,

@@ -61,7 +61,7 @@ enum Stop {
     Unsettled(#[derive_where(skip)] ManuallyDrop<Receipt>),
 }
 
-// By hand: what is done with a receipt that cannot be let go is each program's own.
+// By hand: no derive takes the receipt out and keeps it; what is done with it is each program's own.
 impl From<Unspent> for Stop {
     fn from(unspent: Unspent) -> Stop {
         let Unspent {
@@ -110,6 +110,7 @@ impl<C: AnyCrew> Camera<'_, C> {
     }
 
     /// Grants a lane until its post ends, and says how it ended.
+    // Every maker's own, as it says what it wants to say.
     fn post_to_end(&mut self, lane: usize) -> Result<(), Stop> {
         for _ in 0..MOST_GRANTS {
             let answer = self.crew.grant_lane(self.ram, &mut self.trays, lane)?;

@@ -43,6 +43,7 @@ impl Track<'_> {
     }
 
     /// Posts a ticket.
+    // As every maker posts, but that grants are counted and nothing is printed.
     fn post(&mut self, lane: usize, ticket: Ticket) -> Result<(), Stop> {
         let trays = self.trays.as_mut_slice();
         self.crew.begin_post(trays, lane, ticket)?;

@@ -29,6 +29,7 @@ const COUNT_CYCLES: u32 = 100;
 fn pace(rt: &HostRuntime, lanes: u8, cycles: u32) -> Result<Duration, Stop> {
     let heap = rt.alloc();
     let n = usize::from(lanes);
+    // So many words and trays as docs/RULES.md says: the counts inside `line` are not for others.
     let mut bytes = vec![in heap; 0u8; 8 * (1 + 3 * n + n * CELLS)]?;
     let mut track = Track {
         lanes,

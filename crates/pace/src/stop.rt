@@ -28,7 +28,7 @@ pub enum Stop {
     Unsettled(#[derive_where(skip)] ManuallyDrop<Receipt>),
 }
 
-// By hand: what is done with a receipt that cannot be let go is each program's own.
+// By hand: no derive takes the receipt out and keeps it; what is done with it is each program's own.
 impl From<Unspent> for Stop {
     fn from(unspent: Unspent) -> Stop {
         let Unspent {

@@ -3,7 +3,7 @@
 /// How long a frame is.
 const FRAME_LENGTH: u32 = 4096;
 
-/// A frame that lies elsewhere: which one, where it starts and how long it is.
+/// A frame that lies elsewhere: which one, where it starts and how long it is. As the ticket of `script`, on which nothing here stands.
 #[derive(Clone, Copy, Default)]
 pub struct Ticket {
     frame: u32,

@@ -14,6 +14,7 @@ pub struct PlainCollector {
     // A number, with what the stage carries in fields beside it: C has no enum that carries values.
     pub stage: u8,
     /// 2 in the second try, 1 in the first.
+    // A number, not `Attempt`: C may write any byte, and every other one means the first.
     pub attempt: u8,
     /// The slot that a scan loads next.
     pub next: u8,
@@ -158,7 +159,7 @@ impl From<Collector> for PlainCollector {
 }
 
 impl PlainCollector {
-    // Beside a lane's: the two differ in every field.
+    // Beside a lane's: two structs of C whose stages differ, so a common function would match twice.
     fn stage_of(self) -> CollectStage
         ensures { result ≡ collect_stage_of self }
     {

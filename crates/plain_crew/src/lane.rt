@@ -16,6 +16,7 @@ pub struct PlainLane {
     // A number, with what the stage carries in fields beside it: C has no enum that carries values.
     pub stage: u8,
     /// 2 in the second try, 1 in the first.
+    // A number, not `Attempt`: C may write any byte, and every other one means the first.
     pub attempt: u8,
     /// The head that the last grant loaded.
     pub head: u8,
@@ -142,7 +143,7 @@ impl From<LaneRow> for PlainLane {
 }
 
 impl PlainLane {
-    // Beside the collector's: the two differ in every field.
+    // Beside the collector's: two structs of C whose stages differ, so a common function would match twice.
     fn stage_of(self) -> Stage
         ensures { result ≡ stage_of self }
     {

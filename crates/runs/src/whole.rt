@@ -85,7 +85,7 @@ fn count_of(after: Option<&[DrainingCall]>) -> usize
     after.map_or(0, |later| later.len())
 }
 
-/// The run, with room for all answers: what the laying answers, and the crew that is left.
+/// The run, with room for all answers: what the laying answers, and the crew that is left. It takes what its caller takes.
 fn perform_list<B: Board, P: Copy>(
     board: &mut B,
     trays: &mut [P],

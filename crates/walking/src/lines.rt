@@ -90,7 +90,7 @@ impl Display for OfLane {
         match self.answer {
             LaneAnswer::On => write!(f, "L{lane} on"),
             LaneAnswer::Posted { stamp, grants } => write!(f, "L{lane} posted {stamp} {grants}"),
-            // The numbers are part of the line's text, as `specs/Lines` writes it.
+            // Bare numbers, as `specs/Lines` writes them: tried with `number`, the text did not prove.
             LaneAnswer::Full { grants } => write!(f, "L{lane} refused 8 {grants}"),
             LaneAnswer::UsedUp { grants } => write!(f, "L{lane} refused 9 {grants}"),
         }

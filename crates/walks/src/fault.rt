@@ -25,6 +25,7 @@ pub enum Fault {
 #[error("a line of the input is no call")]
 pub struct Unreadable;
 
+// By hand: what is stuck is put into a `ManuallyDrop`, which no derive does.
 impl From<Stuck> for Fault {
     fn from(stuck: Stuck) -> Fault {
         Fault::Unsettled(unsafe { ManuallyDrop::new_unchecked(stuck) })

@@ -69,6 +69,7 @@ impl Performs for DrainingCrew {
 }
 
 /// Who makes the calls: the crew, and the receipt that is held while a collect is begun.
+// Beside `Running` of `runs`: of that one it is proved that a receipt is held exactly while a collect is begun; here one that is stuck is handed out.
 pub struct Owner<C> {
     crew: C,
     held: Option<Receipt>,

@@ -3,7 +3,7 @@ use line::answer::{CollectorAnswer, LaneAnswer, Refusal, Totals};
 use line::collector::Collected;
 use std::fmt;
 
-/// The answer to one call or one grant.
+/// The answer to one call or one grant. No `Result`: accepted or refused, it is one line of the output.
 #[derive(Clone, Copy, PartialEq)]
 pub enum Answer {
     /// Accepted, with nothing to tell.
