@@ -8,7 +8,7 @@ ghost use Rattle.line.specs.Calls.{begins_collect, begins_post, fills, grants_co
 ghost use Rattle.cline.specs.Calls.{CrewLeaves, Leaves, any_kind, calls, crew_calls, drains, is_draining, is_open, tells};
 
 use crate::answer::{Answer, Tells};
-use crate::held::{any_crew, draining_crew, open_crew};
+use crate::held::{any_crew, draining_crew, kept, open_crew};
 use boards::ByteBoard;
 use line::calls::AnyCrew;
 use line::crew::Core;
@@ -86,9 +86,8 @@ pub extern "C" fn cline_grant_lane(
 pub extern "C" fn cline_begin_collect(crew: &mut PlainCrew) -> Answer
     ensures { CrewLeaves (crew_calls any_kind crew.old begins_collect) result crew.new }
 {
-    match any_crew(crew) {
-        Ok(held) => {
-            let mut core = Core::from(held);
+    match kept(crew) {
+        Ok(mut core) => {
             let result = core.open_collect();
             *crew = PlainCrew::from(core);
             Answer::from(result)
@@ -123,9 +122,8 @@ pub extern "C" fn cline_grant_collector(
 pub extern "C" fn cline_settle(crew: &mut PlainCrew) -> Answer
     ensures { CrewLeaves (crew_calls any_kind crew.old settles) result crew.new }
 {
-    match any_crew(crew) {
-        Ok(held) => {
-            let mut core = Core::from(held);
+    match kept(crew) {
+        Ok(mut core) => {
             let result = core.close_collect();
             *crew = PlainCrew::from(core);
             Answer::from(result)

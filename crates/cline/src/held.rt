@@ -9,12 +9,25 @@ use crate::answer::Refused;
 use line::crew::{Core, Crew, DrainingCrew};
 use line::either::{EitherCrew, UnfitShape};
 use plain_crew::crew::PlainCrew;
+use std::marker::PhantomData;
 
 impl From<UnfitShape> for Refused {
     ghost from_gives = { λ _ refused. refused ≡ NeverLaid };
 
     fn from(_unfit: UnfitShape) -> Refused {
         Refused::NeverLaid
+    }
+}
+
+/// What the crew keeps that the numbers mean, if its shape is one that a crew can have.
+pub(crate) fn kept(plain: &PlainCrew) -> Result<Core, Refused>
+    ensures { result ≡ take any_kind (core_of plain.now) }
+{
+    let core = Core::from(plain);
+    if core.shape.is_fit() {
+        Ok(core)
+    } else {
+        Err(Refused::NeverLaid)
     }
 }
 
@@ -25,24 +38,39 @@ pub(crate) fn any_crew(plain: &PlainCrew) -> Result<EitherCrew, Refused>
     Ok(EitherCrew::try_from(Core::from(plain))?)
 }
 
-// Two functions, one for each kind: one over both would want a trait with an impl for each kind, longer than the two.
+// Two functions, one for each kind: by its contract each says which crew it takes. Each builds its crew in place and does not call `kept` or
+// `any_crew`: a crew taken out of what these answer is copied once more, which each call would pay for.
 
 /// The crew that the numbers mean, if it is open.
 pub(crate) fn open_crew(plain: &PlainCrew) -> Result<Crew, Refused>
     ensures { kept_by (λ crew. crew.core) result ≡ take is_open (core_of plain.now) }
 {
-    match any_crew(plain)? {
-        EitherCrew::Open(crew) => Ok(crew),
-        EitherCrew::Draining(_) => Err(Refused::OutOfPlace),
+    let core = Core::from(plain);
+    if !core.shape.is_fit() {
+        return Err(Refused::NeverLaid);
     }
+    if core.draining {
+        return Err(Refused::OutOfPlace);
+    }
+    Ok(Crew {
+        core,
+        openness: PhantomData,
+    })
 }
 
 /// The crew that the numbers mean, if it drains.
 pub(crate) fn draining_crew(plain: &PlainCrew) -> Result<DrainingCrew, Refused>
     ensures { kept_by (λ crew. crew.core) result ≡ take is_draining (core_of plain.now) }
 {
-    match any_crew(plain)? {
-        EitherCrew::Draining(crew) => Ok(crew),
-        EitherCrew::Open(_) => Err(Refused::OutOfPlace),
+    let core = Core::from(plain);
+    if !core.shape.is_fit() {
+        return Err(Refused::NeverLaid);
     }
+    if !core.draining {
+        return Err(Refused::OutOfPlace);
+    }
+    Ok(Crew {
+        core,
+        openness: PhantomData,
+    })
 }

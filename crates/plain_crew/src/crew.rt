@@ -8,6 +8,7 @@ use line::access::Shape;
 use line::collector::Collector;
 use line::crew::Core;
 use line::lane::LaneRow;
+use std::array;
 
 /// What a crew keeps, as numbers. A crew that was never laid is all zeros.
 // Laid out as `cline_crew` of include/cline.h: whole arrays with a count, and a number for a `bool`, since C may write any byte.
@@ -41,7 +42,7 @@ impl From<&PlainCrew> for Core {
                 lanes: plain.lanes,
                 cells: plain.cells,
             },
-            rows: plain.rows.map(LaneRow::from),
+            rows: array::from_fn(|i| LaneRow::from(plain.rows[i])),
             heads,
             collector: Collector::from(plain.collector),
             posted: plain.posted,
@@ -62,7 +63,7 @@ impl From<Core> for PlainCrew {
             cells: core.shape.cells,
             draining: u8::from(core.draining),
             heads,
-            rows: core.rows.map(PlainLane::from),
+            rows: array::from_fn(|i| PlainLane::from(core.rows[i])),
             collector: PlainCollector::from(core.collector),
             posted: core.posted,
             delivered: core.delivered,
