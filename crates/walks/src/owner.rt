@@ -2,7 +2,7 @@
 //!
 //! A receipt cannot be let go, so it travels by value: each call takes the crew's owner, who may hold one, and gives the owner
 //! back. A receipt that no settling took leaves in a `Stuck`, which nothing here drops either.
-use crate::call::{Call, Step};
+use crate::call::{Call, Sizes, Step};
 use crate::memory::Memory;
 use crate::reply::{Answer, Reply};
 use boards::{Board, ByteBoard};
@@ -70,22 +70,27 @@ impl Performs for DrainingCrew {
 
 /// Who makes the calls: the crew, and the receipt that is held while a collect is begun.
 // Beside `Running` of `runs`: of that one it is proved that a receipt is held exactly while a collect is begun; here one that is stuck is handed out.
-pub struct Owner<C> {
-    crew: C,
+pub struct Owner<'c, C> {
+    crew: &'c mut C,
     held: Option<Receipt>,
 }
 
 /// What a call gives: the owner after it, and the reply.
-type Performed<C> = Result<(Owner<C>, Reply), Stuck>;
+type Performed<'c, C> = Result<(Owner<'c, C>, Reply), Stuck>;
 
-impl<C: Performs> Owner<C> {
+impl<'c, C: Performs> Owner<'c, C> {
+    /// Who makes the calls of this crew, holding its receipt, if there is one.
+    pub fn of(crew: &'c mut C, held: Option<Receipt>) -> Owner<'c, C> {
+        Owner { crew, held }
+    }
+
     /// Performs steps in their order; `replies` has room for all of them.
     pub fn perform_all<B: Board>(
         mut self,
         memory: &mut Memory<'_, B>,
         steps: &[Step],
         replies: &mut Vec<Reply>,
-    ) -> Result<Owner<C>, Stuck> {
+    ) -> Result<Owner<'c, C>, Stuck> {
         for step in steps {
             let (owner, reply) = self.perform(memory, *step)?;
             self = owner;
@@ -95,10 +100,16 @@ impl<C: Performs> Owner<C> {
     }
 
     /// Performs a step with the list's memory, or with a spare one of the sizes that the step names.
-    fn perform<B: Board>(self, memory: &mut Memory<'_, B>, step: Step) -> Performed<C> {
-        let Some(sizes) = step.spare else {
-            return self.call(memory, step.call);
-        };
+    fn perform<B: Board>(self, memory: &mut Memory<'_, B>, step: Step) -> Performed<'c, C> {
+        match step.spare {
+            None => self.call(memory, step.call),
+            Some(sizes) => self.call_spared(sizes, step.call),
+        }
+    }
+
+    /// Makes a call with a spare memory of these sizes, which it has to leave at 0.
+    // A method of its own: within `perform` the arrays would be made in every step.
+    fn call_spared(self, sizes: Sizes, call: Call) -> Performed<'c, C> {
         // Whole arrays, cut to the sizes: a `Vec` could run out of memory while a receipt is held.
         let mut bytes = [0u8; 8 * SPARE];
         let mut payloads = [0u64; SPARE];
@@ -106,7 +117,7 @@ impl<C: Performs> Owner<C> {
             board: ByteBoard::over(&mut bytes[..8 * sizes.words.min(SPARE)]),
             trays: &mut payloads[..sizes.trays.min(SPARE)],
         };
-        let (owner, reply) = self.call(&mut spare, step.call)?;
+        let (owner, reply) = self.call(&mut spare, call)?;
         if spare.is_blank() {
             Ok((owner, reply))
         } else {
@@ -114,7 +125,7 @@ impl<C: Performs> Owner<C> {
         }
     }
 
-    fn call<B: Board>(mut self, memory: &mut Memory<'_, B>, call: Call) -> Performed<C> {
+    fn call<B: Board>(mut self, memory: &mut Memory<'_, B>, call: Call) -> Performed<'c, C> {
         let reply = match call {
             Call::Collect => return self.begin_collect(),
             Call::Settle => return self.settle(),
@@ -148,8 +159,8 @@ impl<C: Performs> Owner<C> {
         Ok((self, reply))
     }
 
-    fn begin_collect(self) -> Performed<C> {
-        let Owner { mut crew, held } = self;
+    fn begin_collect(self) -> Performed<'c, C> {
+        let Owner { crew, held } = self;
         let (held, answer) = match (crew.begin_collect(), held) {
             (Ok(receipt), None) => (Some(receipt), Answer::Accepted),
             (Ok(receipt), Some(first)) => {
@@ -163,10 +174,11 @@ impl<C: Performs> Owner<C> {
         Ok((Owner { crew, held }, Reply::Once(answer)))
     }
 
-    fn settle(self) -> Performed<C> {
-        let Owner { mut crew, held } = self;
+    fn settle(self) -> Performed<'c, C> {
+        let Owner { crew, held } = self;
         let Some(receipt) = held else {
-            return settle_unheld(crew);
+            let answer = settle_unheld(crew)?;
+            return Ok((Owner { crew, held: None }, Reply::Once(answer)));
         };
         let (held, answer) = match crew.settle(receipt) {
             Ok(how) => (None, Answer::Settled(how)),
@@ -175,9 +187,15 @@ impl<C: Performs> Owner<C> {
         Ok((Owner { crew, held }, Reply::Once(answer)))
     }
 
+    /// The receipt that is held, if there is one.
+    pub fn into_held(self) -> Option<Receipt> {
+        let Owner { crew: _, held } = self;
+        held
+    }
+
     /// Grants a collect that is open to its end and settles it.
     pub fn finish<B: Board>(self, memory: &mut Memory<'_, B>) -> Result<(), Stuck> {
-        let Owner { mut crew, held } = self;
+        let Owner { crew, held } = self;
         let Some(receipt) = held else {
             return Ok(());
         };
@@ -186,25 +204,6 @@ impl<C: Performs> Owner<C> {
         }
         let _ = crew.settle(receipt)?;
         Ok(())
-    }
-}
-
-impl Owner<Crew> {
-    /// The owner of a new crew.
-    pub fn new() -> Owner<Crew> {
-        Owner {
-            crew: Crew::new(),
-            held: None,
-        }
-    }
-
-    /// The owner of the draining crew; a receipt that is held stays.
-    pub fn drain(self) -> Owner<DrainingCrew> {
-        let Owner { crew, held } = self;
-        Owner {
-            crew: crew.drain(),
-            held,
-        }
     }
 }
 
@@ -225,28 +224,24 @@ fn grant<F: FnMut() -> Answer>(times: u64, on: Answer, mut grant_once: F) -> Rep
 }
 
 /// Settles without a receipt of the crew: another crew lends one, and gets it back to settle its own collect.
-fn settle_unheld<C: Performs>(mut crew: C) -> Performed<C> {
+fn settle_unheld<C: Performs>(crew: &mut C) -> Result<Answer, Stuck> {
     let mut bytes = [0u8; 48];
     let mut trays = [0u64; 4];
     let mut board = ByteBoard::over(&mut bytes);
     let mut other = Crew::new();
     let _ = other.lay(&mut board, &trays, 1, 2, 0);
-    let answer = match other.begin_collect() {
-        Err(_) => Answer::Nothing,
+    match other.begin_collect() {
+        Err(_) => Ok(Answer::Nothing),
         Ok(receipt) => match crew.settle(receipt) {
-            Ok(how) => Answer::Settled(how),
+            Ok(how) => Ok(Answer::Settled(how)),
             Err(Unspent { refusal, receipt }) => {
-                let lender = Owner {
-                    crew: other,
-                    held: Some(receipt),
-                };
+                let lender = Owner::of(&mut other, Some(receipt));
                 lender.finish(&mut Memory {
                     board,
                     trays: &mut trays,
                 })?;
-                Answer::Refused(refusal)
+                Ok(Answer::Refused(refusal))
             }
         },
-    };
-    Ok((Owner { crew, held: None }, Reply::Once(answer)))
+    }
 }

@@ -5,6 +5,7 @@ use crate::memory::Memory;
 use crate::owner::{Owner, Stuck};
 use crate::reply::{Answer, Reply};
 use boards::Board;
+use line::crew::Crew;
 use std::alloc::{AllocError, Global};
 
 /// What tray 0 holds before the first call; the next hold one more each.
@@ -64,13 +65,15 @@ fn perform_list<B: Board>(
         .position(|step| matches!(step.call, Call::Drain))
         .unwrap_or(steps.len());
     let (before, rest) = steps.split_at(drain);
-    let owner = Owner::new().perform_all(memory, before, replies)?;
+    let mut crew = Crew::new();
+    let owner = Owner::of(&mut crew, None).perform_all(memory, before, replies)?;
     let [_, after @ ..] = rest else {
         return owner.finish(memory);
     };
     let _ = replies.push(Reply::Once(Answer::Accepted));
-    owner
-        .drain()
+    let held = owner.into_held();
+    let mut crew = crew.drain();
+    Owner::of(&mut crew, held)
         .perform_all(memory, after, replies)?
         .finish(memory)
 }
