@@ -47,6 +47,21 @@ fn check_all(rt: &impl Abort, heap: Global, table: &[(&[u8], &str)]) -> Result<(
 }
 
 #[test]
+fn a_line_has_the_same_words_in_any_width(rt: HostRuntime) -> Result<(), Fail> {
+    let heap = rt.alloc();
+    let mut text = String::new(heap);
+    for line in walk_script(heap, WHOLE)?.iter() {
+        let line = *line;
+        text.push_str(format!(in heap; "{line:>24.2};")?.as_str())?;
+    }
+    assert_eq!(rt;
+        text.as_str(),
+        "laid;begun;L0 posted 0 9;begun;C delivered 0 0 6;settled;draining;report 1 1;"
+    );
+    Ok(())
+}
+
+#[test]
 fn ticket_scripts(rt: HostRuntime) -> Result<(), Fail> {
     check_all(
         &rt,

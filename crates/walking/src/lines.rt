@@ -69,7 +69,8 @@ impl<T: Display> Display for OrRefused<T> {
 
     fn fmt<W: fmt::Write>(&self, f: &mut fmt::Formatter<W>) -> fmt::Result {
         match &self.0 {
-            Ok(accepted) => accepted.fmt(f),
+            // A hole of its own: whatever width the line is printed in, what it says is not padded.
+            Ok(accepted) => write!(f, "{accepted}"),
             Err(refusal) => write!(f, "refused {}", refusal.number()),
         }
     }

@@ -19,7 +19,7 @@ const TRAYS: usize = 1041;
 
 /// Runs a script, and writes its lines.
 pub fn write_lines<W: Write>(heap: Global, script: &[u8], out: &mut W) -> io::Result<()> {
-    for line in walk_script(heap, script)? {
+    for line in &walk_script(heap, script)? {
         writeln!(out, "{line}")?;
     }
     Ok(())
@@ -63,9 +63,16 @@ fn walk_line<P: Payload>(
 
 /// One line for each record that was performed.
 fn lines_of(heap: Global, run: &Run) -> Result<Vec<Line>, AllocError> {
-    let mut lines = vec![in heap; Line::Laid(run.laid)]?;
+    let later = run.after.as_deref();
+    let records = run
+        .before
+        .len()
+        .saturating_add(later.map_or(0, |later| later.len()));
+    // Room for all at once, with the lines of the laying, the drain and a fault: a full `Vec` that gets one more line doubles.
+    let mut lines = Vec::with_capacity(heap, records.saturating_add(3))?;
+    lines.push(Line::Laid(run.laid))?;
     lines.extend(run.before.iter().map(|answer| Line::Answered(*answer)))?;
-    if let Some(later) = &run.after {
+    if let Some(later) = later {
         lines.push(Line::Draining)?;
         lines.extend(later.iter().map(|answer| Line::Answered(*answer)))?;
     }
