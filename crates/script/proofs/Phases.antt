@@ -12,18 +12,19 @@ use Rattle.script.specs.declared.record.Kind.{Kind}
 use Rattle.script.specs.declared.record.Kind.TheVariants.{Report}
 use Rattle.script.specs.declared.record.Record.{Record}
 use Rattle.script.specs.Calls.{calling, crew_call, draining_item, open_item}
-use Rattle.script.specs.Records.{record_at}
+use Rattle.script.specs.Records.{kind_of, record_at}
 use Rattle.script.specs.Scripts.{CallsFrom, CallsUpTo, EndsOpen, Reads, ReadsDraining, Stops, said}
 use Rattle.script.proofs.Readings.{all_of, behind_calls, passed, retold}
 
 -- no record says after the drain that the line drains
-no_second_of : (k : Kind) (x : Result CrewCall Fault) → ◌≡◌ {A = Result (Option DrainingCall) Fault} (elim k [ Report ↦ Ok (Some draining.Report) | _ ↦ calling (λ c. draining.Any c) x ]) (Ok None) → ⊥
-no_second_of Report x h = cc
-no_second_of _ (Ok c) h = cc
-no_second_of _ (Err f) h = cc
+no_second_of : (k : Result Kind Fault) (x : Result CrewCall Fault) → ◌≡◌ {A = Result (Option DrainingCall) Fault} (elim k [ Ok k' ↦ elim k' [ Report ↦ Ok (Some draining.Report) | _ ↦ calling (λ c. draining.Any c) x ] | Err f ↦ Err f ]) (Ok None) → ⊥
+no_second_of (Err f) x h = cc
+no_second_of (Ok Report) x h = cc
+no_second_of (Ok _) (Ok c) h = cc
+no_second_of (Ok _) (Err f) h = cc
 
 no_second : (x : Result Record Fault) → said draining_item x ≡ Ok None → ⊥
-no_second (Ok r) h = no_second_of r.kind (crew_call r) h
+no_second (Ok r) h = no_second_of (kind_of r.kind) (crew_call r) h
 no_second (Err f) h = cc
 
 -- the part after the drain ends with the script

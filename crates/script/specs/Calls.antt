@@ -12,6 +12,7 @@ use Rattle.script.specs.declared.fault.Fault.{Fault}
 use Rattle.script.specs.declared.fault.Fault.TheVariants.{OutOfPlace, FieldNotAllowed}
 use Rattle.script.specs.declared.record.Kind.TheVariants.{PostTicket, PostNote, GrantLane, BeginCollect, GrantCollector, Settle, Drain, Report}
 use Rattle.script.specs.declared.record.Record.{Record}
+use Rattle.script.specs.Records.{by_kind}
 
 -- a grant is given at least once
 abbrev pub if_times : Record → CrewCall → Result CrewCall Fault
@@ -19,13 +20,13 @@ if_times r c = cond (r.times == 0) (Err FieldNotAllowed) (Ok c)
 
 abbrev pub crew_call : Record → Result CrewCall Fault
 crew_call r =
-    elim r.kind [
+    by_kind (λ k. elim k [
       | GrantLane ↦ if_times r (crew.GrantLane r.lane r.times)
       | BeginCollect ↦ Ok crew.BeginCollect
       | GrantCollector ↦ if_times r (crew.GrantCollector r.times)
       | Settle ↦ Ok crew.Settle
       | _ ↦ Err OutOfPlace
-    ]
+    ]) r
 
 -- the item that makes the call of what was read
 module _ {X C : Type 0} (call : X → C) where
@@ -35,15 +36,15 @@ module _ {X C : Type 0} (call : X → C) where
 
 abbrev pub draining_item : Record → Result (Option DrainingCall) Fault
 draining_item r =
-    elim r.kind [ Report ↦ Ok (Some draining.Report) | _ ↦ calling (λ c. draining.Any c) (crew_call r) ]
+    by_kind (λ k. elim k [ Report ↦ Ok (Some draining.Report) | _ ↦ calling (λ c. draining.Any c) (crew_call r) ]) r
 
 -- `brought` says what the record of a post brings
 module _ {P : Type 0} (brought : Record → Result P Fault) where
   abbrev pub open_item : Record → Result (Option (OpenCall P)) Fault
   open_item r =
-      elim r.kind [
+      by_kind (λ k. elim k [
         | PostTicket ↦ calling (λ p. BeginPost r.lane p) (brought r)
         | PostNote ↦ calling (λ p. BeginPost r.lane p) (brought r)
         | Drain ↦ Ok None
         | _ ↦ calling (λ c. Any c) (crew_call r)
-      ]
+      ]) r

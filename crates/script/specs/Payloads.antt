@@ -7,8 +7,10 @@ use Rattle.script.specs.declared.fault.Fault.TheVariants.{OutOfPlace, FieldNotAl
 use Rattle.script.specs.declared.payload.Note.{Note}
 use Rattle.script.specs.declared.payload.Note.TheVariants.{Temperature, BiasVoltage, DarkLevel, FaultCode}
 use Rattle.script.specs.declared.payload.Ticket.{Ticket}
+use Rattle.script.specs.declared.record.Kind.{Kind}
 use Rattle.script.specs.declared.record.Kind.TheVariants.{PostTicket, PostNote}
 use Rattle.script.specs.declared.record.Record.{Record}
+use Rattle.script.specs.Records.{kind_number}
 
 -- the bits of a float that is a finite number: its exponent bits are not all ones
 abbrev pub finite : ℕ → Bool
@@ -30,12 +32,16 @@ note_of tag bits = cond (allowed_reading tag bits) (Ok (reading tag bits)) (Err 
 abbrev pub measured : ℕ → Result Float Fault
 measured bits = cond (finite bits) (Ok (from_bits binary32 bits)) (Err FieldNotAllowed)
 
+-- what a post of kind k brings; a record of another kind is out of place
+abbrev pub if_kind : {X : Type 0} → Kind → Record → Result X Fault → Result X Fault
+if_kind k r brings = cond (r.kind == kind_number k) brings (Err OutOfPlace)
+
 abbrev pub ticket_brought : Record → Result Ticket Fault
 ticket_brought r =
-    elim r.kind [ PostTicket ↦ Ok (record { frame = r.frame; place = r.place; length = r.length }) | _ ↦ Err OutOfPlace ]
+    if_kind PostTicket r (Ok (record { frame = r.frame; place = r.place; length = r.length }))
 
 abbrev pub note_brought : Record → Result Note Fault
-note_brought r = elim r.kind [ PostNote ↦ note_of r.tag r.value | _ ↦ Err OutOfPlace ]
+note_brought r = if_kind PostNote r (note_of r.tag r.value)
 
 -- the text of a ticket
 abbrev pub ticket_text : Ticket → List ℕ

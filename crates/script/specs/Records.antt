@@ -34,11 +34,28 @@ kind_of n =
     (cond (n == 9) (Ok Drain)
     (cond (n == 10) (Ok Report) (Err UnknownKind))))))))))
 
--- a record of kind k whose numbers are 0
+-- the number that stands for a kind
+abbrev pub kind_number : Kind → ℕ
+kind_number LayTickets = 1
+kind_number LayNotes = 2
+kind_number PostTicket = 3
+kind_number PostNote = 4
+kind_number GrantLane = 5
+kind_number BeginCollect = 6
+kind_number GrantCollector = 7
+kind_number Settle = 8
+kind_number Drain = 9
+kind_number Report = 10
+
+-- what is said of a record by its kind, if its number stands for one
+abbrev pub by_kind : {X : Type 0} → (Kind → Result X Fault) → Record → Result X Fault
+by_kind say r = elim (kind_of r.kind) [ Ok k ↦ say k | Err f ↦ Err f ]
+
+-- a record of kind k whose other numbers are 0
 abbrev pub blank : Kind → Record
 blank k =
     record {
-      kind = k;
+      kind = kind_number k;
       lane = 0;
       lanes = 0;
       cells = 0;

@@ -13,7 +13,7 @@ use Rattle.script.specs.declared.record.Record.{Record}
 use Rattle.script.specs.declared.script.Payloads.{Payloads}
 use Rattle.script.specs.declared.script.Payloads.TheVariants.{Tickets, Notes}
 use Rattle.script.specs.Calls.{draining_item, open_item}
-use Rattle.script.specs.Records.{record_at, rest_at, two}
+use Rattle.script.specs.Records.{kind_of, record_at, rest_at, two}
 
 -- for which payload a line is laid, and with which numbers
 pub data Line : Type 0 where
@@ -34,7 +34,11 @@ payloads_of k = elim k [ LayTickets ↦ Ok Tickets | LayNotes ↦ Ok Notes | _ �
 -- the first record of a script has to lay a line
 abbrev pub first_line : Result Record Fault → Result Line Fault
 first_line (Err f) = Err f
-first_line (Ok r) = elim (payloads_of r.kind) [ Ok p ↦ Ok (line_for p (laying_of r)) | Err f ↦ Err f ]
+first_line (Ok r) =
+    elim (kind_of r.kind) [
+      | Ok k ↦ elim (payloads_of k) [ Ok p ↦ Ok (line_for p (laying_of r)) | Err f ↦ Err f ]
+      | Err _ ↦ Err OutOfPlace
+    ]
 
 abbrev pub line_of : Result Record Fault → Result (Option Line) FaultAt
 line_of r = elim (first_line r) [ Ok line ↦ Ok (Some line) | Err f ↦ Err (record { fault = f; at = 0 }) ]

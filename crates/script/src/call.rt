@@ -24,7 +24,7 @@ impl<P: Payload> Call for OpenCall<P> {
     ghost item = { open_item P.Payload.brought };
 
     fn of_record(record: &Record) -> Result<Option<OpenCall<P>>, Fault> {
-        match record.kind {
+        match Kind::try_from(record.kind)? {
             Kind::PostTicket | Kind::PostNote => Ok(Some(OpenCall::BeginPost {
                 lane: record.lane as usize,
                 payload: P::of_record(record)?,
@@ -39,7 +39,7 @@ impl Call for DrainingCall {
     ghost item = { draining_item };
 
     fn of_record(record: &Record) -> Result<Option<DrainingCall>, Fault> {
-        match record.kind {
+        match Kind::try_from(record.kind)? {
             Kind::Report => Ok(Some(DrainingCall::Report)),
             _ => Ok(Some(DrainingCall::Any(crew_call(record)?))),
         }
@@ -51,7 +51,7 @@ fn crew_call(record: &Record) -> Result<CrewCall, Fault>
     ensures { result ≡ crew_call «record».now }
 {
     let times = record.times;
-    match record.kind {
+    match Kind::try_from(record.kind)? {
         Kind::GrantLane | Kind::GrantCollector if times == 0 => Err(Fault::FieldNotAllowed),
         Kind::GrantLane => Ok(CrewCall::GrantLane {
             lane: record.lane as usize,

@@ -73,8 +73,8 @@ impl Payload for Ticket {
     ghost brought = { ticket_brought };
 
     fn of_record(record: &Record) -> Result<Ticket, Fault> {
-        match record.kind {
-            Kind::PostTicket => Ok(Ticket {
+        match Kind::try_from(record.kind) {
+            Ok(Kind::PostTicket) => Ok(Ticket {
                 frame: record.frame,
                 place: record.place,
                 length: record.length,
@@ -88,8 +88,8 @@ impl Payload for Note {
     ghost brought = { note_brought };
 
     fn of_record(record: &Record) -> Result<Note, Fault> {
-        match record.kind {
-            Kind::PostNote => note_of(record.tag, record.value),
+        match Kind::try_from(record.kind) {
+            Ok(Kind::PostNote) => note_of(record.tag, record.value),
             _ => Err(Fault::OutOfPlace),
         }
     }

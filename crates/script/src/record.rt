@@ -1,6 +1,6 @@
 //! One record of a script, read from the front of some bytes.
 ghost use Rattle.std.specs.Prelude.{◌≡◌, Ok, Err};
-ghost use Rattle.script.specs.Records.{blank, body_of, collector_grant, if_long, kind_of, lane_grant, laying, note_post, record_at, rest_at, ticket_post};
+ghost use Rattle.script.specs.Records.{blank, body_of, collector_grant, if_long, kind_number, kind_of, lane_grant, laying, note_post, record_at, rest_at, ticket_post};
 
 use crate::fault::Fault;
 
@@ -8,25 +8,25 @@ use crate::fault::Fault;
 #[derive(Clone, Copy, Debug, PartialEq, Eq)]
 pub enum Kind {
     /// Lay a line for tickets.
-    LayTickets,
+    LayTickets = 1,
     /// Lay a line for notes.
-    LayNotes,
+    LayNotes = 2,
     /// Begin the post of a ticket.
-    PostTicket,
+    PostTicket = 3,
     /// Begin the post of a note.
-    PostNote,
+    PostNote = 4,
     /// Grant a lane.
-    GrantLane,
+    GrantLane = 5,
     /// Begin a collect.
-    BeginCollect,
+    BeginCollect = 6,
     /// Grant the collector.
-    GrantCollector,
+    GrantCollector = 7,
     /// Settle the collect.
-    Settle,
+    Settle = 8,
     /// Drain the crew.
-    Drain,
+    Drain = 9,
     /// Report both totals.
-    Report,
+    Report = 10,
 }
 
 /// The kind that a number in a script stands for.
@@ -52,12 +52,21 @@ impl TryFrom<u16> for Kind {
     }
 }
 
-/// A record: its kind, and its numbers as they stand in the script. A number that the kind does not have is 0.
+impl Kind {
+    /// The number that stands for the kind in a script.
+    pub fn number(self) -> u16
+        ensures { result ≡ kind_number self }
+    {
+        self as u16
+    }
+}
+
+/// The numbers of a record, as they stand in the script. A number that the kind does not have is 0.
 // Plain numbers, not an enum with a body for each kind: a record is handed out as it stands in the script.
 #[derive(Clone, Copy)]
 pub struct Record {
-    /// Which record it is.
-    pub kind: Kind,
+    /// Which record it is: the number of its kind. In a record that was read it stands for one; in one made by hand it may be any.
+    pub kind: u16,
     /// The lane that a post or a lane's grant is for.
     pub lane: u16,
     /// How many lanes a laying asks for.
@@ -81,12 +90,12 @@ pub struct Record {
 }
 
 impl Record {
-    /// A record of this kind whose numbers are 0. Written out: a kind has no default.
+    /// A record of this kind whose other numbers are 0. Written out: a default would have kind 0, which stands for none.
     fn blank(kind: Kind) -> Record
         ensures { result ≡ blank kind }
     {
         Record {
-            kind,
+            kind: kind.number(),
             lane: 0,
             lanes: 0,
             cells: 0,

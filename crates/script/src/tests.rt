@@ -1,6 +1,8 @@
 //! Scripts on the edge of each fault, and two that are read whole.
+use crate::call::Call;
 use crate::fault::{Fault, FaultAt};
 use crate::payload::{Note, Payload, Ticket};
+use crate::record::{Kind, Record};
 use crate::script::{Calls, Payloads, open_script, read_calls};
 use runs::calls::{CrewCall, DrainingCall, OpenCall};
 use std::alloc::{AllocError, Global};
@@ -284,5 +286,40 @@ fn a_laying_has_the_numbers_of_its_record(rt: HostRuntime) -> Result<(), Fail> {
         }
     )?;
     assert_eq!(rt; told.as_str(), "fault 15 at 16");
+    Ok(())
+}
+
+#[test]
+fn a_record_of_no_kind_asks_for_nothing(rt: HostRuntime) -> Result<(), Fail> {
+    for kind in [0, 11, 77, u16::MAX] {
+        let record = Record {
+            kind,
+            lane: 0,
+            lanes: 1,
+            cells: 2,
+            start: 0,
+            frame: 0,
+            place: 0,
+            length: 0,
+            tag: 4,
+            value: 0,
+            times: 0,
+        };
+        let before = OpenCall::<Ticket>::of_record(&record);
+        assert_eq!(rt; before.err(), Some(Fault::UnknownKind));
+        let after = DrainingCall::of_record(&record);
+        assert_eq!(rt; after.err(), Some(Fault::UnknownKind));
+        assert_eq!(rt; Ticket::of_record(&record).err(), Some(Fault::OutOfPlace));
+        assert_eq!(rt; Note::of_record(&record).err(), Some(Fault::OutOfPlace));
+    }
+    Ok(())
+}
+
+#[test]
+fn a_kind_has_the_number_that_stands_for_it(rt: HostRuntime) -> Result<(), Fail> {
+    for number in 1..=10 {
+        assert_eq!(rt; Kind::try_from(number).map(Kind::number), Ok(number));
+    }
+    assert_eq!(rt; Kind::Report.number(), 10);
     Ok(())
 }

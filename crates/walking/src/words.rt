@@ -25,17 +25,18 @@ impl fmt::Display for Asked {
 fn show_record<W: fmt::Write>(record: &Record, f: &mut fmt::Formatter<W>) -> fmt::Result {
     let lane = record.lane;
     let times = Count(record.times, "time");
-    match record.kind {
-        Kind::LayTickets => show_laying("tickets", record, f),
-        Kind::LayNotes => show_laying("notes", record, f),
-        Kind::PostTicket => show_post::<Ticket, W>(record, f),
-        Kind::PostNote => show_post::<Note, W>(record, f),
-        Kind::GrantLane => write!(f, "grant lane {lane}, at most {times}"),
-        Kind::BeginCollect => write!(f, "begin a collect"),
-        Kind::GrantCollector => write!(f, "grant the collector, at most {times}"),
-        Kind::Settle => write!(f, "settle the collect"),
-        Kind::Drain => write!(f, "drain the crew"),
-        Kind::Report => write!(f, "report both totals"),
+    match Kind::try_from(record.kind) {
+        Err(fault) => write!(f, "{fault}"),
+        Ok(Kind::LayTickets) => show_laying("tickets", record, f),
+        Ok(Kind::LayNotes) => show_laying("notes", record, f),
+        Ok(Kind::PostTicket) => show_post::<Ticket, W>(record, f),
+        Ok(Kind::PostNote) => show_post::<Note, W>(record, f),
+        Ok(Kind::GrantLane) => write!(f, "grant lane {lane}, at most {times}"),
+        Ok(Kind::BeginCollect) => write!(f, "begin a collect"),
+        Ok(Kind::GrantCollector) => write!(f, "grant the collector, at most {times}"),
+        Ok(Kind::Settle) => write!(f, "settle the collect"),
+        Ok(Kind::Drain) => write!(f, "drain the crew"),
+        Ok(Kind::Report) => write!(f, "report both totals"),
     }
 }
 
