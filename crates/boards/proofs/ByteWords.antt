@@ -67,7 +67,7 @@ eight_bytes v =
     (v % 256) ∷ (v / 256 % 256) ∷ (v / 65536 % 256) ∷ (v / 16777216 % 256) ∷ (v / 4294967296 % 256)
     ∷ (v / 1099511627776 % 256) ∷ (v / 281474976710656 % 256) ∷ (v / 72057594037927936 % 256) ∷ []
 
-value_eight_bytes : (v : ℕ) → v < 2 ^ 64 → value (eight_bytes v) ≡ v
+pub value_eight_bytes : (v : ℕ) → v < 2 ^ 64 → value (eight_bytes v) ≡ v
 value_eight_bytes v h = omega arith
 
 -- a write of n elements at a keeps the length (said for any n: at the numeral 8 the search would unroll the list)
@@ -79,10 +79,10 @@ abbrev pub written : List ℕ → List ℕ → ℕ → List ℕ
 written bs vs k = put_mid (8 * k) 8 bs vs
 
 module _ (bs vs : List ℕ) (k : ℕ) (there : k < word_count bs) (eight : length vs ≡ 8) where
-  length_written : length (written bs vs k) ≡ length bs
+  pub length_written : length (written bs vs k) ≡ length bs
   length_written = length_put bs vs (8 * k) 8 (omega arith) eight
 
-  rest_written : rest_of (written bs vs k) ≡ rest_of bs
+  pub rest_written : rest_of (written bs vs k) ≡ rest_of bs
   rest_written =
       ap (λ n. drop (8 * (n / 8)) (written bs vs k)) length_written
       ∙ drop-put_mid (8 * k) 8 bs vs (8 * word_count bs) (omega arith) (omega arith) eight
@@ -110,7 +110,7 @@ module _ (bs vs : List ℕ) (k : ℕ) (there : k < word_count bs) (eight : lengt
   word_other : (j : ℕ) → j ≢ k → word_at (written bs vs k) j ≡ word_at bs j
   word_other j ne = ⊎_elim (λ before. word_before j before) (λ behind. word_behind j (omega arith)) (cases_lt j k)
 
-  words_written : words_of (written bs vs k) ≡ set (words_of bs) k (value vs)
+  pub words_written : words_of (written bs vs k) ≡ set (words_of bs) k (value vs)
   words_written =
       same_lists (words_of (written bs vs k)) (set (words_of bs) k (value vs))
       (count ∙ sym (length-set (words_of bs) k (value vs) ∙ length_words bs))

@@ -30,9 +30,9 @@ busy_unless_at_rest (SwapSlot t s v) h = refl
 
 module _ {P : Type 0} (ws : List ℕ) (ps : List P) (c : Core) where
   -- the test of board and trays, told by the board's length
-  pub memory_told : (n : ℕ) (test : Bool) → n ≡ length ws → test ≡ (leb (words_needed c.shape) n && leb (trays_needed c.shape) (length ps)) →
-      (board_holds ws ps c c.shape && trays_hold ws ps c c.shape) ≡ test
-  memory_told n test len told = sym (told ∙ ap (λ m. leb (words_needed c.shape) m && leb (trays_needed c.shape) (length ps)) len)
+  pub memory_told : (s : Shape) (n : ℕ) (test : Bool) → n ≡ length ws → test ≡ (leb (words_needed s) n && leb (trays_needed s) (length ps)) →
+      (board_holds ws ps c s && trays_hold ws ps c s) ≡ test
+  memory_told s n test len told = sym (told ∙ ap (λ m. leb (words_needed s) m && leb (trays_needed s) (length ps)) len)
 
   -- a collector's step over lanes of so many cells
   pub collector_does : (s : Shape) (a : Access) (w : ℕ) (answer : CollectorAnswer) (ws' : List ℕ) (ps' : List P) (c' : Core) → s ≡ c.shape →

@@ -12,7 +12,7 @@ returns g c =
     let ps = c.args.trays.now in
     let core = c.args.self.now.core in
     let laid = c.in_ok-ring.ensures in
-    let holds = memory_told ws ps core c.len.result true c.len.ensures c.if-not-held_by.ensures in
+    let holds = memory_told ws ps core core.shape c.len.result true c.len.ensures c.if-not-held_by.ensures in
     record {
       step = gives_same
           (passed (refuse ws ps core) (collector_grant_tests ws ps core) _ (lt-ltb 0 core.shape.lanes laid.0, (holds, (sym c.if-not-is_under_way.ensures, tt))))

@@ -14,7 +14,7 @@ returns g c =
     let lane = c.args.lane in
     let made = c.in_ok-own.ensures in
     let is_busy : busy (row_of core lane).stage ≡ true = sym (ap (λ r. busy r.stage) made.1) ∙ busy_unless_at_rest _ c.in_default.not-AtRest in
-    let holds = memory_told ws ps core c.len.result true c.len.ensures c.if-not-held_by.ensures in
+    let holds = memory_told ws ps core core.shape c.len.result true c.len.ensures c.if-not-held_by.ensures in
     record {
       step = gives_same
           (passed (refuse ws ps core) (lane_grant_tests ws ps core lane) _ (sym c.if-not-is_laid.ensures, (holds, (lt-ltb lane core.shape.lanes (omega arith), (made.0, (is_busy, tt))))))
