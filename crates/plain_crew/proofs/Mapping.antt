@@ -17,12 +17,12 @@ module _ {F X Y : Type 0} {g : Mut F (ℕ × Unit {0}) Y} (Stays : F → Type 0)
       (cases_lt i j)
 
 -- where each call, as long as the function stays as it was, gives h of the element at its index, the array is h of each
-pub mapped :
+pub mapped_by_index :
     {F X Y : Type 0} {g : Mut F (ℕ × Unit {0}) Y} {f : F} {ys : List Y} {n : ℕ} → IsFromFnResult g f ys n
     → (Stays : F → Type 0) (h : X → Y) (xs : List X) (blank : X)
     → ((p : F) (i : ℕ) (y : Y) (q : F) → Stays p → i < length xs → Called g p (i, tt) y q → Stays q × (y ≡ h (get_or xs i blank)))
     → Stays f → n ≡ length xs → ys ≡ map h xs
-mapped {f = f} {ys = ys} {n = n} made Stays h xs blank gives stays is-xs =
+mapped_by_index {f = f} {ys = ys} {n = n} made Stays h xs blank gives stays is-xs =
     ext_get_or (h blank) ys (map h xs) (made.long ∙ is-xs ∙ sym (length-map xs h))
     (λ i inside.
     let below : i < length xs = omega (made.long, is-xs, arith) in

@@ -94,6 +94,7 @@ fn read_opening(input: &[u8]) -> Result<Opened<'_>, Fault>
     ensures { elim result [ Ok w ↦ (first_line (record_at input.now) ≡ Ok (line_for w.payloads w.laying)) × (w.rest.now ≡ rest_at input.now) | Err e ↦ first_line (record_at input.now) ≡ Err e ] }
 {
     let (record, rest) = read_record(input)?;
+    // Whatever the first record is, unless it lays a line it is out of place.
     let kind = Kind::try_from(record.kind).map_err(|_| Fault::OutOfPlace)?;
     Ok(Opened {
         payloads: Payloads::try_from(kind)?,
