@@ -55,7 +55,8 @@ impl TryFrom<u16> for Kind {
 impl Kind {
     /// The number that stands for the kind in a script.
     pub fn number(self) -> u16
-        ensures { result ≡ kind_number self }
+        ensures number { result ≡ kind_number self }
+        ensures stands { kind_of result ≡ Ok self }
     {
         self as u16
     }
